@@ -1,0 +1,128 @@
+-- The book: what a mesh is written as, what reading gives, and the bytes of one record (01, "The book" and "Order"). Definitions only.
+use Prim.Native.Nat.{ℕ, zero, suc, _+_, _-_}
+use mathlib.Core.List.{List, [], _∷_, _++_}
+use mathlib.Core.Bool.{Bool}
+use lib.ListN.{length, getD, take, drop, replicate}
+use lib.Dec.{ltb, leb, eqb}
+use Rattle.scan.specs.Bytes.{bytes, number}
+use Rattle.mesh.specs.declared.Link.{Link}
+use Rattle.mesh.specs.declared.Mesh.{Mesh}
+use Rattle.mesh.specs.declared.Answer.{Answer}
+use Rattle.mesh.specs.declared.Answer.the-variants.{Accepted, Refused}
+use Rattle.mesh.specs.Mesh.{must, andThen, zeroLink, zeroMesh, nodesFit, countFits, meshAnswer}
+use Rattle.codec.specs.declared.Decoded.{Decoded}
+use Rattle.codec.specs.declared.Encoded.{Encoded}
+use Rattle.codec.specs.declared.Span.{Span}
+use Rattle.codec.specs.Record.{recordOf, recordLength, linkOf, recordAnswer}
+
+-- ---- writing
+
+-- the version byte that is written, and those that are read
+abbrev pub version : ℕ
+version = 1
+
+abbrev pub knownVersion : ℕ → Bool
+knownVersion b = eqb b version
+
+-- the records of the links in turn after the link p
+unfoldable pub recordsOf : Link → List Link → List ℕ
+recordsOf p [] = []
+recordsOf p (l ∷ ls) = recordOf p l ++ recordsOf l ls
+
+-- the book of a mesh: version, N, L in two bytes, then L records
+unfoldable pub bookOf : Mesh → List ℕ
+bookOf m = version ∷ (m .nodes ∷ (bytes 2 (m .count) ++ recordsOf zeroLink (take (m .count) (m .links))))
+
+-- writing m to an output of `room` bytes: the mesh checks, then 11
+unfoldable pub encodeAnswer : Mesh → ℕ → Answer
+encodeAnswer m room =
+    andThen (meshAnswer m)
+    (must (leb (length (bookOf m)) room) 11 (length (bookOf m))
+    Accepted)
+
+abbrev pub encodedAs : Answer → ℕ → Encoded
+encodedAs Accepted n = record { length = n; answer = Accepted }
+encodedAs (Refused number place) n = record { length = 0; answer = Refused number place }
+
+-- the answer, with the length of the book where it was written and 0 on a refusal
+unfoldable pub encoded : Mesh → ℕ → Encoded
+encoded m room = encodedAs (encodeAnswer m room) (length (bookOf m))
+
+abbrev pub outputAs : Answer → List ℕ → List ℕ → List ℕ
+outputAs Accepted book out = book ++ drop (length book) out
+outputAs (Refused number place) book out = out
+
+-- the output after writing m: the book, then the bytes past it as they were; on a refusal all as it was
+unfoldable pub outputAfter : Mesh → List ℕ → List ℕ
+outputAfter m out = outputAs (encodeAnswer m (length out)) (bookOf m) out
+
+-- ---- reading
+
+-- the header of the book s: 1 (under 4 bytes), 2, 3, 4
+unfoldable pub headerAnswer : List ℕ → Answer
+headerAnswer s =
+    must (leb 4 (length s)) 1 (length s)
+    (must (knownVersion (getD s 0 0)) 2 0
+    (must (nodesFit (getD s 1 0)) 3 1
+    (must (countFits (number 2 s 2)) 4 2
+    Accepted)))
+
+-- k records at the front of s, which stands at `at` in a book of `end` bytes, after the link p; then 10
+unfoldable pub recordsAnswer : ℕ → ℕ → Link → ℕ → ℕ → List ℕ → Answer
+recordsAnswer n end p at zero s = must (eqb (length s) 0) 10 at Accepted
+recordsAnswer n end p at (suc k) s =
+    andThen (recordAnswer n end p at s)
+    (recordsAnswer n end (linkOf p s) (at + recordLength (getD s 0 0)) k (drop (recordLength (getD s 0 0)) s))
+
+-- the links of these records
+unfoldable pub linksOf : Link → ℕ → List ℕ → List Link
+linksOf p zero s = []
+linksOf p (suc k) s = linkOf p s ∷ linksOf (linkOf p s) k (drop (recordLength (getD s 0 0)) s)
+
+-- reading the book s
+unfoldable pub bookAnswer : List ℕ → Answer
+bookAnswer s =
+    andThen (headerAnswer s)
+    (recordsAnswer (getD s 1 0) (length s) zeroLink 4 (number 2 s 2) (drop 4 s))
+
+-- the mesh that the book s says: its links, then entries that are all zero
+unfoldable pub meshOf : List ℕ → Mesh
+meshOf s = record {
+  nodes = getD s 1 0;
+  count = number 2 s 2;
+  links = linksOf zeroLink (number 2 s 2) (drop 4 s) ++ replicate (256 - number 2 s 2) zeroLink;
+}
+
+abbrev pub decodedAs : Answer → Mesh → Decoded
+decodedAs Accepted m = record { mesh = m; answer = Accepted }
+decodedAs (Refused number place) m = record { mesh = zeroMesh; answer = Refused number place }
+
+-- what reading gives: the answer and the mesh, the all-zero mesh on a refusal
+unfoldable pub decoded : List ℕ → Decoded
+decoded s = decodedAs (bookAnswer s) (meshOf s)
+
+-- ---- one record
+
+-- where the record of link k starts in the book s
+unfoldable pub recordStart : List ℕ → ℕ → ℕ
+recordStart s zero = 4
+recordStart s (suc k) = recordStart s k + recordLength (getD s (recordStart s k) 0)
+
+-- showing the record of link k: reading, then 12
+unfoldable pub spanAnswer : List ℕ → ℕ → Answer
+spanAnswer s k =
+    andThen (bookAnswer s)
+    (must (ltb k (number 2 s 2)) 12 k
+    Accepted)
+
+abbrev pub spanAs : Answer → ℕ → ℕ → Span
+spanAs Accepted start length = record { start = start; end = start + length; answer = Accepted }
+spanAs (Refused number place) start length = record { start = 0; end = 0; answer = Refused number place }
+
+-- the answer, with the record's start and end in the book, both 0 on a refusal
+unfoldable pub spanOf : List ℕ → ℕ → Span
+spanOf s k = spanAs (spanAnswer s k) (recordStart s k) (recordLength (getD s (recordStart s k) 0))
+
+-- the bytes of the record of link k as they stand in the book, the empty part on a refusal
+unfoldable pub recordPart : List ℕ → ℕ → List ℕ
+recordPart s k = take (spanOf s k .end - spanOf s k .start) (drop (spanOf s k .start) s)

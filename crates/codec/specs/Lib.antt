@@ -1,0 +1,4 @@
+pub mod Field
+pub mod Record
+pub mod Book
+pub mod Laws

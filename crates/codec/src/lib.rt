@@ -1,0 +1,95 @@
+// The codec of the book: decode, encode, and the bytes of one record.
+ghost use mathlib.Core.Path.{_≡_};
+ghost use lib.ListN.{length};
+ghost use Rattle.codec.specs.Book.{decoded, encoded, outputAfter, spanAnswer, recordPart};
+
+mod header;
+mod layout;
+mod locate;
+mod number;
+mod reader;
+mod record_reader;
+mod record_writer;
+
+mod writer;
+
+use mesh::{Answer, Mesh};
+
+// What reading gives: the mesh, all zero on a refusal.
+pub struct Decoded {
+    pub mesh: Mesh,
+    pub answer: Answer,
+}
+
+// What writing gives: the length of the book, 0 on a refusal.
+pub struct Encoded {
+    pub length: usize,
+    pub answer: Answer,
+}
+
+// Where a record stands in its book: from start up to, not including, end.
+pub struct Span {
+    pub start: usize,
+    pub end: usize,
+    pub answer: Answer,
+}
+
+// 01's reading: the mesh of a book.
+pub fn decode(book: &[u8]) -> Decoded
+    ensures { λ r. ⌜ r ≡ decoded (now (book .entry)) ⌝ }
+{
+    let a = header::header_answer(book);
+    let Answer::Accepted = a else {
+        return reader::refused(a);
+    };
+    reader::read_records(book)
+}
+
+// 01's writing: the book of m at the front of out. Bytes past the book stay as they were, and all of out on a refusal.
+pub fn encode(m: Mesh, out: &mut [u8]) -> Encoded
+    ensures answer { λ r. ⌜ r ≡ encoded m (length (now (out .entry))) ⌝ }
+    ensures output { λ _. ⌜ now (out .exit) ≡ outputAfter m (now (out .entry)) ⌝ }
+{
+    let a = mesh::check(m);
+    let Answer::Accepted = a else {
+        return Encoded {
+            length: 0,
+            answer: a,
+        };
+    };
+    let length = writer::book_length(m);
+    if out.len() < length {
+        let short = Answer::Refused {
+            number: 11,
+            place: length,
+        };
+        return Encoded {
+            length: 0,
+            answer: short,
+        };
+    }
+    writer::put_book(out, m);
+    let done = Answer::Accepted;
+    Encoded {
+        length,
+        answer: done,
+    }
+}
+
+// The answer to showing the record of a link: reading's refusals, then 12.
+pub fn record_answer(book: &[u8], link: u16) -> Answer
+    ensures { λ r. ⌜ r ≡ spanAnswer (now (book .entry)) link ⌝ }
+{
+    let found = locate::find_record(book, link);
+    found.answer
+}
+
+// The bytes of a link's record as they stand in the book, the empty part on a refusal.
+pub fn record_bytes(book: &[u8], link: u16) -> &[u8]
+    ensures { λ r. ⌜ now r ≡ recordPart (now (book .entry)) link ⌝ }
+{
+    let found = locate::find_record(book, link);
+    let start = found.start;
+    let end = found.end;
+    &book[start..end]
+}

@@ -1,0 +1,38 @@
+// Numbers of up to four bytes, low byte first.
+ghost use mathlib.Core.Path.{_≡_};
+ghost use Prim.Native.Nat.{_+_, _≤_, _<_, _^_};
+ghost use lib.ListN.{length};
+ghost use lib.Seq.{sets};
+ghost use Rattle.scan.specs.Bytes.{bytes, number};
+
+// The number in the w bytes of s from `at` on.
+pub(crate) fn number_at(s: &[u8], at: usize, w: usize) -> u32
+    requires { ⌜ w ≤ 4 ⌝ }
+    requires { ⌜ at + w ≤ length (now s) ⌝ }
+    ensures value { λ r. ⌜ r ≡ number w (now (s .entry)) at ⌝ }
+    ensures within { λ r. ⌜ r < 256 ^ w ⌝ }
+{
+    let mut x: u32 = 0;
+    let mut i = w;
+    while 0 < i {
+        i -= 1;
+        x = s[at + i] as u32 + 256 * x;
+    }
+    x
+}
+
+// Stores the w low bytes of v from `at` on, and answers where the next byte goes.
+pub(crate) fn put_bytes(out: &mut [u8], at: usize, w: usize, v: u32) -> usize
+    requires { ⌜ at + w ≤ length (now out) ⌝ }
+    ensures next { λ r. ⌜ r ≡ at + w ⌝ }
+    ensures stored { λ _. ⌜ now (out .exit) ≡ sets (now (out .entry)) at (bytes w v) ⌝ }
+{
+    let mut x = v;
+    let mut i: usize = 0;
+    while i < w {
+        out[at + i] = (x % 256) as u8;
+        x = x / 256;
+        i += 1;
+    }
+    at + w
+}

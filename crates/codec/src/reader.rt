@@ -1,0 +1,55 @@
+// Reading the records of a book.
+use crate::number::number_at;
+use crate::record_reader::read_record;
+use crate::Decoded;
+use mesh::{zero_link, zero_mesh, Answer, Link, Mesh};
+
+ghost use mathlib.Core.Path.{_≡_};
+ghost use Rattle.mesh.specs.declared.Answer.the-variants.{Accepted};
+ghost use Rattle.mesh.specs.Mesh.{zeroMesh};
+ghost use Rattle.codec.specs.Book.{decoded, headerAnswer};
+
+// The all-zero mesh with a refusal.
+pub(crate) fn refused(answer: Answer) -> Decoded
+    ensures mesh { λ r. ⌜ r .mesh ≡ zeroMesh ⌝ }
+    ensures answer { λ r. ⌜ r .answer ≡ answer ⌝ }
+{
+    let mesh = zero_mesh();
+    Decoded { mesh, answer }
+}
+
+// The mesh of a book whose header is accepted.
+pub(crate) fn read_records(book: &[u8]) -> Decoded
+    requires { ⌜ headerAnswer (now book) ≡ Accepted ⌝ }
+    ensures { λ r. ⌜ r ≡ decoded (now (book .entry)) ⌝ }
+{
+    let nodes = book[1];
+    let k = number_at(book, 2, 2) as usize;
+    let end = book.len();
+    let mut m = zero_mesh();
+    m.nodes = nodes;
+    m.count = k as u16;
+    let mut prev = zero_link();
+    let mut at: usize = 4;
+    let mut i: usize = 0;
+    while i < k {
+        let r = read_record(&book[at..], nodes, prev, at, end);
+        let a = r.answer;
+        let Answer::Accepted = a else {
+            return refused(a);
+        };
+        let l = r.link;
+        m.links[i] = l;
+        prev = l;
+        at += r.length;
+        i += 1;
+    }
+    if at < end {
+        return refused(Answer::Refused {
+            number: 10,
+            place: at,
+        });
+    }
+    let answer = Answer::Accepted;
+    Decoded { mesh: m, answer }
+}

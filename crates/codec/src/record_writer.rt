@@ -1,0 +1,57 @@
+// Writing one record.
+use crate::layout::{bit_map, record_length, Fields};
+use crate::number::put_bytes;
+use mesh::Link;
+
+ghost use mathlib.Core.Path.{_≡_};
+ghost use Prim.Native.Nat.{_+_, _≤_, _<_};
+ghost use lib.ListN.{length};
+ghost use lib.Seq.{sets};
+ghost use Rattle.codec.specs.Field.{fieldBytes};
+ghost use Rattle.codec.specs.Record.{field, linkWith, recordOf};
+
+pub(crate) fn widened(l: Link) -> Fields
+    ensures value { λ r. ⌜ linkWith (r .low) (r .high) (r .length) (r .pair) ≡ l ⌝ }
+    ensures low { λ r. ⌜ r .low < 256 ⌝ }
+{
+    Fields {
+        low: l.low as u32,
+        high: l.high as u32,
+        length: l.length as u32,
+        pair: l.pair,
+    }
+}
+
+// The length of the record of l after prev.
+pub(crate) fn length_of(prev: Link, l: Link) -> usize
+    ensures value { λ r. ⌜ r ≡ length (recordOf prev l) ⌝ }
+    ensures within { λ r. ⌜ r ≤ 9 ⌝ }
+{
+    record_length(bit_map(prev, widened(l)))
+}
+
+// Stores a field of w bytes at `at` unless it has its absent value, and answers where the next one goes.
+fn put_field(out: &mut [u8], at: usize, w: usize, value: u32, absent: u32) -> usize
+    requires { ⌜ at + length (fieldBytes (field w value absent)) ≤ length (now out) ⌝ }
+    ensures next { λ r. ⌜ r ≡ at + length (fieldBytes (field w value absent)) ⌝ }
+    ensures stored { λ _. ⌜ now (out .exit) ≡ sets (now (out .entry)) at (fieldBytes (field w value absent)) ⌝ }
+{
+    if value == absent {
+        return at;
+    }
+    put_bytes(out, at, w, value)
+}
+
+// Stores the record of l after prev at the front of out, and answers its length.
+pub(crate) fn put_record(out: &mut [u8], prev: Link, l: Link) -> usize
+    requires { ⌜ length (recordOf prev l) ≤ length (now out) ⌝ }
+    ensures next { λ r. ⌜ r ≡ length (recordOf prev l) ⌝ }
+    ensures stored { λ _. ⌜ now (out .exit) ≡ sets (now (out .entry)) 0 (recordOf prev l) ⌝ }
+{
+    let f = widened(l);
+    out[0] = bit_map(prev, f);
+    let a = put_field(out, 1, 1, f.low, prev.low as u32);
+    let b = put_field(out, a, 1, f.high, f.low + 1);
+    let c = put_field(out, b, 2, f.length, 0);
+    put_field(out, c, 4, f.pair, 0)
+}

@@ -1,0 +1,77 @@
+-- `mesh::links::rest_is_zero` meets its contract. The loop keeps that all entries are zero just where those from i on are.
+use borrow.Author.Needs.{needs}
+use native.Mathlib.Omega.{arith}
+use mathlib.Core.Path.{_≡_, sym, _∙_}
+use Prim.Native.Nat.{_-_, _≤_}
+use lib.ListN.{length, drop}
+use borrow.Author.Tests.{not-true, not-false}
+use Rattle.scan.specs.Part.{length-mapped}
+use Rattle.mesh.specs.Mesh.{allZero}
+use Rattle.mesh.specs.Laws.Links.{zero-next, zero-refused, zero-end}
+use Rattle.mesh.proofs.links.rest_is_zero.Statement.{statement}
+use Rattle.mesh.proofs.links.rest_is_zero.Tie as tie
+
+abbrev Inv-loop : tie.InvT-loop
+Inv-loop m i₀ i = (i ≤ 256) × (allZero (drop (m .count) (m .links)) ≡ allZero (drop i (m .links)))
+
+abbrev μ-loop : tie.MeasureT-loop
+μ-loop m i₀ i = 256 - i
+
+cast-i : tie.Need-cast-i Inv-loop μ-loop
+cast-i c = search needs
+
+loop-holds : tie.Need-loop-holds Inv-loop μ-loop
+loop-holds c = search needs
+
+mul-l : tie.Need-mul-l Inv-loop μ-loop
+mul-l c = search needs
+
+element-copy-out-l : tie.Need-element-copy-out-l Inv-loop μ-loop
+element-copy-out-l c = search needs
+
+is-zero-requires : tie.Need-is-zero-requires Inv-loop μ-loop
+is-zero-requires c κs = search needs
+
+returns : tie.Need-returns Inv-loop μ-loop
+returns c =
+    let a = c .before .before .before .before .before .args .t1 in
+    let lo = c .before .before .before .before .loop in
+    let sized : length (a .links) ≡ 256 = search length-mapped in
+    sym (lo .inv .1 ∙ zero-refused (a .links) (lo .i) (omega arith) (sym (c .before .is-zero .ensures) ∙ not-true _ (c .if1 .taken)))
+
+add-i : tie.Need-add-i Inv-loop μ-loop
+add-i c = search needs
+
+loop-less : tie.Need-loop-less Inv-loop μ-loop
+loop-less c = search needs
+
+loop-again : tie.Need-loop-again Inv-loop μ-loop
+loop-again c =
+    let a = c .before .before .before .before .before .args .t1 in
+    let lo = c .before .before .before .before .loop in
+    let sized : length (a .links) ≡ 256 = search length-mapped in
+    (omega arith, lo .inv .1 ∙ zero-next (a .links) (lo .i) (omega arith) (sym (c .before .is-zero .ensures) ∙ not-false _ (c .if1 .left)))
+
+returns-2 : tie.Need-returns-2 Inv-loop μ-loop
+returns-2 c =
+    let a = c .before .before .args .t1 in
+    let lo = c .before .loop in
+    let sized : length (a .links) ≡ 256 = search length-mapped in
+    sym (lo .inv .1 ∙ zero-end (a .links) (lo .i) (omega arith))
+
+pub rest-is-zero-spec : {M : Type 1} → statement M
+rest-is-zero-spec =
+    tie.close
+    (tie.spec
+    Inv-loop
+    μ-loop
+    cast-i
+    loop-holds
+    mul-l
+    element-copy-out-l
+    is-zero-requires
+    returns
+    add-i
+    loop-less
+    loop-again
+    returns-2)

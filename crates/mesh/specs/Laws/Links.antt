@@ -1,0 +1,50 @@
+-- What one turn of a loop over the links does to the checks. Serves the proofs of `links_answer` and `rest_is_zero`. Assumes nothing.
+use Prim.Native.Nat.{ℕ, _+_, _≤_, _<_}
+use mathlib.Core.Path.{_≡_, sym, _∙_}
+use mathlib.Core.Bool.{true, false, _&&_}
+use mathlib.Core.List.{List}
+use native.Mathlib.Numerals.{add-one}
+use lib.ListN.{length, getD, take, drop, drop-of-length-le}
+use lib.Seq.{drop-cons}
+use Rattle.scan.specs.Part.{drop-take, drop-take-end}
+use Rattle.mesh.specs.declared.Link.{Link}
+use Rattle.mesh.specs.declared.Answer.{Answer}
+use Rattle.mesh.specs.declared.Answer.the-variants.{Accepted, Refused}
+use Rattle.mesh.specs.Mesh.{zeroLink, linkAnswer, andThen, linksAnswer, isZero, allZero}
+
+module _ (n : ℕ) (p : Link) (links : List Link) (k i : ℕ) where
+  links-step : i < k → k ≤ length links
+      → linksAnswer n p i (drop i (take k links))
+      ≡ andThen (linkAnswer n p (getD links i zeroLink) i)
+      (linksAnswer n (getD links i zeroLink) (i + 1) (drop (i + 1) (take k links)))
+  unfolding linksAnswer
+  links-step h hk = rw (drop-take zeroLink links k i h hk)
+
+  -- link i is accepted, or refused, or there is none
+  pub links-next : i < k → k ≤ length links → linkAnswer n p (getD links i zeroLink) i ≡ Accepted
+      → linksAnswer n p i (drop i (take k links)) ≡ linksAnswer n (getD links i zeroLink) (i + 1) (drop (i + 1) (take k links))
+  links-next h hk e = links-step h hk ∙ rw e
+
+  pub links-refused : i < k → k ≤ length links → {number place : ℕ} → linkAnswer n p (getD links i zeroLink) i ≡ Refused number place
+      → linksAnswer n p i (drop i (take k links)) ≡ Refused number place
+  links-refused h hk e = links-step h hk ∙ rw e
+
+  pub links-end : k ≤ i → linksAnswer n p i (drop i (take k links)) ≡ Accepted
+  unfolding linksAnswer
+  links-end h = rw (drop-take-end links k i h)
+
+module _ (links : List Link) (i : ℕ) where
+  zero-step : i < length links → allZero (drop i links) ≡ (isZero (getD links i zeroLink) && allZero (drop (i + 1) links))
+  unfolding allZero
+  zero-step h = rw (drop-cons links i zeroLink h, add-one i)
+
+  -- entry i is zero, or not, or there is none
+  pub zero-next : i < length links → isZero (getD links i zeroLink) ≡ true → allZero (drop i links) ≡ allZero (drop (i + 1) links)
+  zero-next h e = zero-step h ∙ rw e
+
+  pub zero-refused : i < length links → isZero (getD links i zeroLink) ≡ false → allZero (drop i links) ≡ false
+  zero-refused h e = zero-step h ∙ rw e
+
+  pub zero-end : length links ≤ i → allZero (drop i links) ≡ true
+  unfolding allZero
+  zero-end h = rw (drop-of-length-le links h)

@@ -1,0 +1,42 @@
+-- What 01's section "The mesh" says of a mesh, in words of order and range. Definitions only.
+use Prim.Native.Nat.{ℕ, _+_, _<_, _≤_, _^_}
+use mathlib.Core.Path.{_≡_}
+use mathlib.Core.Logic.{_⊎_}
+use lib.ListN.{length, getD}
+use Rattle.mesh.specs.declared.Link.{Link}
+use Rattle.mesh.specs.declared.Mesh.{Mesh}
+use Rattle.mesh.specs.Mesh.{zeroLink}
+
+-- link i of a mesh
+abbrev pub link : Mesh → ℕ → Link
+link m i = getD (m .links) i zeroLink
+
+-- the ends are two nodes, the low one first
+pub record Joins (n : ℕ) (l : Link) : Type 0 where
+  pub apart : l .low < l .high
+  pub inside : l .high < n
+
+-- the pair of p stands before the pair of l in the order of (low, high)
+abbrev pub Rises : Link → Link → Type 0
+Rises p l = (p .low < l .low) ⊎ ((p .low ≡ l .low) × (p .high < l .high))
+
+-- 2 to 64 nodes, 0 to 256 links in strictly rising order of (low, high), entries past the last link all zero
+pub record WellFormed (m : Mesh) : Type 0 where
+  pub nodes-least : 2 ≤ m .nodes
+  pub nodes-most : m .nodes ≤ 64
+  pub count-most : m .count ≤ 256
+  pub joins : (i : ℕ) → i < m .count → Joins (m .nodes) (link m i)
+  pub rises : (i : ℕ) → i + 1 < m .count → Rises (link m i) (link m (i + 1))
+  pub zeros : (i : ℕ) → m .count ≤ i → link m i ≡ zeroLink
+
+-- the ranges of a link's fields: ends of one byte, a length of 0 to 65,535, a pair number of 32 bits
+pub record LinkInRange (l : Link) : Type 0 where
+  pub low : l .low < 256
+  pub high : l .high < 256
+  pub length : l .length < 65536
+  pub pair : l .pair < 2 ^ 32
+
+-- the ranges of a mesh's fields, which the types of its record ensure: every mesh that a function is given has them
+pub record InRange (m : Mesh) : Type 0 where
+  pub entries : length (m .links) ≡ 256
+  pub links : (i : ℕ) → LinkInRange (link m i)

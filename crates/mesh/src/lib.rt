@@ -1,0 +1,134 @@
+// The mesh record and its checks.
+ghost use mathlib.Core.Path.{_≡_};
+ghost use Rattle.mesh.specs.Mesh.{zeroLink, zeroMesh, meshAnswer, endsAnswer, nodesFit, countFits};
+ghost use Rattle.mesh.specs.WellFormed.{InRange};
+
+mod links;
+
+use links::{links_answer, rest_is_zero};
+
+pub struct Link {
+    pub low: u8,
+    pub high: u8,
+    pub length: u16,
+    pub pair: u32,
+}
+
+pub struct Mesh {
+    pub nodes: u8,
+    pub count: u16,
+    pub links: [Link; 256],
+}
+
+// Accepted, or a refusal with 01's number and place.
+pub enum Answer {
+    Accepted,
+    Refused { number: u8, place: usize },
+}
+
+pub fn zero_link() -> Link
+    ensures { λ r. ⌜ r ≡ zeroLink ⌝ }
+{
+    Link {
+        low: 0,
+        high: 0,
+        length: 0,
+        pair: 0,
+    }
+}
+
+pub fn zero_mesh() -> Mesh
+    ensures { λ r. ⌜ r ≡ zeroMesh ⌝ }
+{
+    Mesh {
+        nodes: 0,
+        count: 0,
+        links: [Link {
+            low: 0,
+            high: 0,
+            length: 0,
+            pair: 0,
+        }; 256],
+    }
+}
+
+// Whether n is a number of nodes.
+pub fn nodes_fit(n: u8) -> bool
+    ensures { λ r. ⌜ r ≡ nodesFit n ⌝ }
+{
+    if n < 2 {
+        return false;
+    }
+    n <= 64
+}
+
+// Whether k is a number of links.
+pub fn count_fits(k: u16) -> bool
+    ensures { λ r. ⌜ r ≡ countFits k ⌝ }
+{
+    k <= 256
+}
+
+// The order test: whether the pair (low, high) stands after the pair (plow, phigh).
+pub fn follows(plow: usize, phigh: usize, low: usize, high: usize) -> bool
+    ensures { λ r. ⌜ r ≡ Rattle.mesh.specs.Mesh.follows plow phigh low high ⌝ }
+{
+    if plow < low {
+        return true;
+    }
+    if plow == low {
+        return phigh < high;
+    }
+    false
+}
+
+// Refusals 7, 6 and 8 of a link with the ends low and high that stands after the link prev. The ends are wide: a book can
+// give the high end 256.
+pub fn ends_answer(nodes: u8, prev: Link, low: usize, high: usize, place: usize) -> Answer
+    ensures { λ r. ⌜ r ≡ endsAnswer nodes (prev .low) (prev .high) low high place ⌝ }
+{
+    let n = nodes as usize;
+    if high <= low {
+        return Answer::Refused { number: 7, place };
+    }
+    if n <= low {
+        return Answer::Refused { number: 6, place };
+    }
+    if n <= high {
+        return Answer::Refused { number: 6, place };
+    }
+    if follows(prev.low as usize, prev.high as usize, low, high) {
+        return Answer::Accepted;
+    }
+    Answer::Refused { number: 8, place }
+}
+
+// The mesh checks: 3, 4; each link 7, 6, 8; then 13.
+pub fn check(m: Mesh) -> Answer
+    ensures answer { λ r. ⌜ r ≡ meshAnswer m ⌝ }
+    ensures ranges { λ _. ⌜ InRange m ⌝ }
+{
+    if !nodes_fit(m.nodes) {
+        return Answer::Refused {
+            number: 3,
+            place: 0,
+        };
+    }
+    if !count_fits(m.count) {
+        return Answer::Refused {
+            number: 4,
+            place: 0,
+        };
+    }
+    let a = links_answer(m);
+    let Answer::Accepted = a else {
+        return a;
+    };
+    if rest_is_zero(m) {
+        return Answer::Accepted;
+    }
+    Answer::Refused {
+        number: 13,
+        place: 0,
+    }
+}

@@ -1,0 +1,57 @@
+// The loops over a mesh's 256 entries.
+use crate::{ends_answer, zero_link, Answer, Link, Mesh};
+
+ghost use mathlib.Core.Path.{_≡_};
+ghost use Prim.Native.Nat.{_≤_};
+ghost use lib.ListN.{take, drop};
+ghost use Rattle.mesh.specs.Mesh.{zeroLink, linksAnswer, isZero, allZero};
+
+// The links in turn: 7, 6, 8.
+pub(crate) fn links_answer(m: Mesh) -> Answer
+    requires { ⌜ m .count ≤ 256 ⌝ }
+    ensures { λ r. ⌜ r ≡ linksAnswer (m .nodes) zeroLink 0 (take (m .count) (m .links)) ⌝ }
+{
+    let n = m.nodes;
+    let k = m.count as usize;
+    let mut prev = zero_link();
+    let mut i: usize = 0;
+    while i < k {
+        let l = m.links[i];
+        let a = ends_answer(n, prev, l.low as usize, l.high as usize, i);
+        let Answer::Accepted = a else {
+            return a;
+        };
+        prev = l;
+        i += 1;
+    }
+    Answer::Accepted
+}
+
+fn is_zero(l: Link) -> bool
+    ensures { λ r. ⌜ r ≡ isZero l ⌝ }
+{
+    if l.low == 0 {
+        if l.high == 0 {
+            if l.length == 0 {
+                return l.pair == 0;
+            }
+        }
+    }
+    false
+}
+
+// Whether each entry past the last link is zero.
+pub(crate) fn rest_is_zero(m: Mesh) -> bool
+    requires { ⌜ m .count ≤ 256 ⌝ }
+    ensures { λ r. ⌜ r ≡ allZero (drop (m .count) (m .links)) ⌝ }
+{
+    let mut i = m.count as usize;
+    while i < 256 {
+        let l = m.links[i];
+        if !is_zero(l) {
+            return false;
+        }
+        i += 1;
+    }
+    true
+}

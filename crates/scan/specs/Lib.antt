@@ -1,0 +1,9 @@
+pub mod Test
+pub mod Entry
+pub mod Lowest
+pub mod Total
+pub mod Distinct
+pub mod Sweep
+pub mod Part
+pub mod Store
+pub mod Bytes

@@ -1,0 +1,32 @@
+-- Parts of a list, as loops over the first k elements and slices of a slice have them. Assumes nothing.
+use Prim.Native.Nat.{ℕ, _+_, _-_, _≤_, _<_}
+use mathlib.Core.Path.{_≡_, sym, _∙_, ap}
+use mathlib.Core.List.{List, [], _∷_, map}
+use native.Mathlib.Nat.{add-zero}
+use native.Mathlib.Numerals.{add-one}
+use native.Mathlib.Omega.{arith}
+use lib.ListN.{length, getD, take, drop, length-map, length-take, length-drop, drop-of-length-le}
+use lib.Seq.{drop-cons, getD-take, getD-drop, length-take-le, take-all}
+
+-- the length of an array of structs, which owning it tells of the list mapped
+pub length-mapped : {X Y : Type 0} (f : X → Y) (l : List X) (n : ℕ) → length (map f l) ≡ n → length l ≡ n
+length-mapped f l n e = sym (length-map l f) ∙ e
+
+-- the first element of what is left from `at` on
+pub front : (s : List ℕ) (at : ℕ) → getD (drop at s) 0 0 ≡ getD s at 0
+front s at = getD-drop at s 0 0 ∙ ap (λ (j : ℕ). getD s j 0) (add-zero at)
+
+-- element i of the first k, and what is left after it
+pub drop-take : {A : Type 0} (d : A) (l : List A) (k i : ℕ) → i < k → k ≤ length l
+    → drop i (take k l) ≡ getD l i d ∷ drop (i + 1) (take k l)
+drop-take d l k i h hk =
+    drop-cons (take k l) i d (simp (length-take-le k l hk) h)
+    ∙ rw (getD-take k l i d h, add-one i)
+
+-- nothing is left of the first k from k on
+pub drop-take-end : {A : Type 0} (l : List A) (k i : ℕ) → k ≤ i → drop i (take k l) ≡ []
+drop-take-end l k i h = drop-of-length-le (take k l) {i = i} (simp length-take (omega arith))
+
+-- the slice &s[at..] as a list
+pub part-rest : {A : Type 0} (s : List A) (at : ℕ) → take (length s - at) (drop at s) ≡ drop at s
+part-rest s at = take-all (length s - at) (drop at s) (simp length-drop (omega arith))

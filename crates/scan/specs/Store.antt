@@ -1,0 +1,27 @@
+-- Runs of stores in a list: `sets l i vs` has the elements of vs from index i on. Assumes nothing.
+use Prim.Native.Nat.{ℕ, suc, _+_, _-_, _≤_}
+use mathlib.Core.Path.{_≡_, sym, _∙_, ap}
+use mathlib.Core.List.{List, [], _∷_, _++_, append-assoc, append-nil}
+use native.Mathlib.Nat.{add-zero, zero-add, add-suc, suc-add}
+use native.Mathlib.Omega.{arith}
+use lib.ListN.{length, take, drop, set, length-drop, drop-of-length-le}
+use lib.Seq.{sets, sets-eq, drop-drop}
+use Rattle.scan.specs.Part.{part-rest}
+
+-- one run after the other
+pub sets-append : {A : Type 0} (l : List A) (i : ℕ) (xs ys : List A) → sets l i (xs ++ ys) ≡ sets (sets l i xs) (i + length xs) ys
+sets-append l i [] ys = rw (add-zero i)
+sets-append l i (x ∷ xs) ys = sets-append (set l i x) (suc i) xs ys ∙ rw (add-suc i (length xs), suc-add i (length xs))
+
+-- a run at the front
+pub sets-front : {A : Type 0} (vs l : List A) → length vs ≤ length l → sets l 0 vs ≡ vs ++ drop (length vs) l
+sets-front vs l h = sets-eq vs l 0 (rw zero-add h) ∙ ap (λ (k : ℕ). vs ++ drop k l) (zero-add (length vs))
+
+-- the lent tail &mut l[at..] with a run at its front, back in its place
+pub sets-lent : {A : Type 0} (l : List A) (at : ℕ) (vs : List A) → at + length vs ≤ length l
+    → take at l ++ (sets (take (length l - at) (drop at l)) 0 vs ++ drop (length l - at) (drop at l)) ≡ sets l at vs
+sets-lent l at vs h =
+    let n : length vs ≤ length (drop at l) = simp length-drop (omega arith) in
+    let z : drop (length l - at) (drop at l) ≡ [] = drop-of-length-le (drop at l) {i = length l - at} (simp length-drop (omega arith)) in
+    rw (z, part-rest l at, append-nil, sets-front vs (drop at l) n, drop-drop (length vs) at l)
+    (sym (sets-eq vs l at h ∙ append-assoc (take at l) vs (drop (at + length vs) l)))

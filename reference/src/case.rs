@@ -1,0 +1,101 @@
+//! The cases of a corpus and their bytes.
+
+use crate::mesh::{Link, Mesh};
+use crate::reader::Reader;
+
+const BOOK: u8 = b'B';
+const MESH: u8 = b'M';
+
+/// The greatest room of a case and the greatest length of its book.
+pub const MOST_BYTES: usize = 2_400;
+
+#[derive(Clone, Debug, PartialEq, Eq)]
+pub enum Case {
+    /// A book, the link whose record is asked for, and the output's size.
+    Book { room: u16, link: u16, book: Vec<u8> },
+    /// A mesh record and the output's size.
+    Mesh { room: u16, mesh: Box<Mesh> },
+}
+
+/// The bytes of a corpus, one case after the other.
+pub fn write_cases(cases: &[Case]) -> Vec<u8> {
+    let mut output = Vec::new();
+    for case in cases {
+        match case {
+            Case::Book { room, link, book } => write_book(*room, *link, book, &mut output),
+            Case::Mesh { room, mesh } => write_mesh(*room, mesh, &mut output),
+        }
+    }
+    output
+}
+
+fn write_book(room: u16, link: u16, book: &[u8], output: &mut Vec<u8>) {
+    output.push(BOOK);
+    output.extend(room.to_le_bytes());
+    output.extend(link.to_le_bytes());
+    output.extend((book.len() as u16).to_le_bytes());
+    output.extend(book);
+}
+
+fn write_mesh(room: u16, mesh: &Mesh, output: &mut Vec<u8>) {
+    let entries: Vec<(usize, &Link)> = (0..)
+        .zip(&mesh.links)
+        .filter(|(_, link)| **link != Link::ZERO)
+        .collect();
+    output.push(MESH);
+    output.extend(room.to_le_bytes());
+    output.push(mesh.nodes);
+    output.extend(mesh.count.to_le_bytes());
+    output.extend((entries.len() as u16).to_le_bytes());
+    for (index, link) in entries {
+        output.extend([index as u8, link.low, link.high]);
+        output.extend(link.length.to_le_bytes());
+        output.extend(link.pair.to_le_bytes());
+    }
+}
+
+/// The cases of a corpus; an error tells where the corpus is ill-formed.
+pub fn read_cases(corpus: &[u8]) -> Result<Vec<Case>, String> {
+    let mut reader = Reader::new(corpus);
+    let mut cases = Vec::new();
+    while !reader.is_at_end() {
+        let start = reader.at();
+        let case = read_case(&mut reader);
+        cases.push(case.ok_or_else(|| format!("ill-formed case at byte {start}"))?);
+    }
+    Ok(cases)
+}
+
+fn read_case(reader: &mut Reader) -> Option<Case> {
+    match reader.one()? {
+        BOOK => read_book(reader),
+        MESH => read_mesh(reader),
+        _ => None,
+    }
+}
+
+fn read_book(reader: &mut Reader) -> Option<Case> {
+    let room = reader.two()?;
+    let link = reader.two()?;
+    let length = reader.two()?;
+    let book = reader.take(length.into())?.to_vec();
+    Some(Case::Book { room, link, book })
+}
+
+fn read_mesh(reader: &mut Reader) -> Option<Case> {
+    let room = reader.two()?;
+    let mut mesh = Box::new(Mesh::ZERO);
+    mesh.nodes = reader.one()?;
+    mesh.count = reader.two()?;
+    let entries = reader.two()?;
+    for _ in 0..entries {
+        let index = reader.one()?;
+        mesh.links[usize::from(index)] = Link {
+            low: reader.one()?,
+            high: reader.one()?,
+            length: reader.two()?,
+            pair: reader.four()?,
+        };
+    }
+    Some(Case::Mesh { room, mesh })
+}

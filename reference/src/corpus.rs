@@ -1,0 +1,39 @@
+//! Makes a corpus from a seed.
+
+pub mod accepted;
+pub mod changed;
+pub mod draft;
+pub mod faults;
+pub mod headers;
+pub mod mesh_records;
+pub mod meshes;
+pub mod questions;
+pub mod shapes;
+pub mod truncated;
+
+use crate::book::bytes_of;
+use crate::case::Case;
+use crate::random::Random;
+
+/// All cases of the corpus: books first, then mesh records.
+pub fn make(seed: u64) -> Vec<Case> {
+    let mut random = Random::new(seed);
+    let books = all_books(&mut random);
+    let mut cases: Vec<Case> = books
+        .into_iter()
+        .map(|book| questions::ask(book, &mut random))
+        .collect();
+    cases.extend(questions::every_question(&mut random));
+    cases.extend(mesh_records::cases(&mut random));
+    cases
+}
+
+fn all_books(random: &mut Random) -> Vec<Vec<u8>> {
+    let mut books: Vec<Vec<u8>> = accepted::meshes(random).iter().map(bytes_of).collect();
+    let changed = changed::books(&books, random);
+    books.extend(headers::books(random));
+    books.extend(faults::books(random));
+    books.extend(truncated::books(random));
+    books.extend(changed);
+    books
+}

@@ -1,0 +1,91 @@
+//! Well-formed meshes.
+
+use super::shapes::{complete, scattered};
+use crate::mesh::{Link, Mesh, MOST_LINKS, MOST_NODES};
+use crate::random::Random;
+
+pub const LENGTHS: [u16; 4] = [1, 255, 256, 65_535];
+pub const PAIRS: [u32; 7] = [1, 255, 256, 65_535, 65_536, 1 << 24, u32::MAX];
+
+/// Which links have a length and a fibre pair.
+#[derive(Clone, Copy)]
+pub enum Fill {
+    None,
+    Some,
+    All,
+}
+
+/// The mesh with these links and random lengths and fibre pairs.
+pub fn filled(nodes: u8, shape: &[(u8, u8)], fill: Fill, random: &mut Random) -> Mesh {
+    let make = |&(low, high): &(u8, u8)| Link {
+        low,
+        high,
+        length: if stands(fill, random) {
+            length(random)
+        } else {
+            0
+        },
+        pair: if stands(fill, random) {
+            pair(random)
+        } else {
+            0
+        },
+    };
+    let links: Vec<Link> = shape.iter().map(make).collect();
+    Mesh::new(nodes, &links)
+}
+
+/// The mesh with these links, without lengths and fibre pairs.
+pub fn plain(nodes: u8, shape: &[(u8, u8)]) -> Mesh {
+    filled(nodes, shape, Fill::None, &mut Random::new(0))
+}
+
+/// A mesh with at most `count` random links.
+pub fn random_mesh(nodes: u8, count: usize, random: &mut Random) -> Mesh {
+    let shape = scattered(nodes, count, random);
+    let fill = random.pick(&[Fill::None, Fill::Some, Fill::Some, Fill::All]);
+    filled(nodes, &shape, fill, random)
+}
+
+/// The length of the longest book of a well-formed mesh. Its 256 records have
+/// 7 bytes each without the ends. A low end is written only where it is above
+/// the one before, so at most once for each of 1 to 62; a high end only where
+/// it is above low + 1, which 62 does not have below N. So the ends take at
+/// most 256 + 61 bytes.
+pub const LONGEST_BOOK: usize = 4 + 256 * 7 + 256 + 61;
+
+/// A mesh whose book has the greatest length.
+pub fn longest(random: &mut Random) -> Mesh {
+    let all = complete(MOST_NODES);
+    let (mut shape, mut others): (Vec<_>, Vec<_>) = all
+        .into_iter()
+        .filter(|(low, high)| *low > 0 && high - low > 1)
+        .partition(|(low, high)| high - low == 2);
+    random.shuffle(&mut others);
+    shape.extend(others);
+    shape.truncate(MOST_LINKS);
+    shape.sort_unstable();
+    filled(MOST_NODES, &shape, Fill::All, random)
+}
+
+fn stands(fill: Fill, random: &mut Random) -> bool {
+    match fill {
+        Fill::None => false,
+        Fill::Some => random.below(2) == 0,
+        Fill::All => true,
+    }
+}
+
+fn length(random: &mut Random) -> u16 {
+    match random.below(2) {
+        0 => random.pick(&LENGTHS),
+        _ => random.between(1, 65_535) as u16,
+    }
+}
+
+fn pair(random: &mut Random) -> u32 {
+    match random.below(2) {
+        0 => random.pick(&PAIRS),
+        _ => random.between(1, u32::MAX as usize) as u32,
+    }
+}

@@ -1,0 +1,93 @@
+//! What every corpus holds.
+
+use std::collections::BTreeSet;
+
+use reference::case::{read_cases, write_cases, Case, MOST_BYTES};
+use reference::corpus;
+use reference::listing::listing;
+
+const SEEDS: [u64; 4] = [0, 1, 2, u64::MAX];
+
+/// The refusal numbers on the listing's lines that start with `word`.
+fn refusals(listing: &str, word: &str) -> BTreeSet<u8> {
+    let start = format!("{word} refused ");
+    let after_word = listing.lines().filter_map(|line| line.strip_prefix(&start));
+    let numbers = after_word.filter_map(|rest| rest.split(' ').next());
+    numbers.map(|number| number.parse().unwrap()).collect()
+}
+
+#[test]
+fn a_written_corpus_reads_back() {
+    for seed in SEEDS {
+        let cases = corpus::make(seed);
+        assert_eq!(read_cases(&write_cases(&cases)), Ok(cases));
+    }
+}
+
+#[test]
+fn the_seed_decides_the_corpus() {
+    assert_eq!(corpus::make(7), corpus::make(7));
+    assert_ne!(corpus::make(7), corpus::make(8));
+}
+
+#[test]
+fn an_ill_formed_corpus_is_an_error() {
+    let corpus = write_cases(&corpus::make(1)[..3]);
+    assert!(read_cases(&corpus[..corpus.len() - 1]).is_err());
+    assert!(read_cases(b"X").is_err());
+}
+
+#[test]
+fn counts_and_sizes() {
+    for seed in SEEDS {
+        let cases = corpus::make(seed);
+        let books = cases
+            .iter()
+            .filter(|case| matches!(case, Case::Book { .. }));
+        let books = books.count();
+        assert!(books >= 2_400);
+        assert!(cases.len() - books >= 300);
+        assert!(write_cases(&cases).len() < 1_200_000);
+        assert!(listing(&cases).len() < 3_000_000);
+    }
+}
+
+#[test]
+fn rooms_and_books_are_within_the_limit() {
+    for seed in SEEDS {
+        for case in corpus::make(seed) {
+            let (room, length) = match case {
+                Case::Book { room, book, .. } => (room, book.len()),
+                Case::Mesh { room, .. } => (room, 0),
+            };
+            assert!(usize::from(room) <= MOST_BYTES);
+            assert!(length <= MOST_BYTES);
+        }
+    }
+}
+
+#[test]
+fn every_refusal_is_met() {
+    for seed in SEEDS {
+        let text = listing(&corpus::make(seed));
+        let reading = BTreeSet::from_iter(1..=10);
+        assert_eq!(refusals(&text, "read"), reading);
+        let mut showing = reading;
+        showing.insert(12);
+        assert_eq!(refusals(&text, "record"), showing);
+        assert_eq!(
+            refusals(&text, "check"),
+            BTreeSet::from([3, 4, 6, 7, 8, 13])
+        );
+        let writing = BTreeSet::from([3, 4, 6, 7, 8, 11, 13]);
+        assert_eq!(refusals(&text, "write"), writing);
+    }
+}
+
+#[test]
+fn the_listing_has_no_trailing_spaces() {
+    let text = listing(&corpus::make(1));
+    assert!(text.is_ascii());
+    assert!(text.ends_with('\n'));
+    assert!(text.lines().all(|line| line == line.trim()));
+}
