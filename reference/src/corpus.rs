@@ -10,6 +10,8 @@ pub mod meshes;
 pub mod questions;
 pub mod shapes;
 pub mod truncated;
+pub mod wrong_meshes;
+pub mod wrong_records;
 
 use crate::book::bytes_of;
 use crate::case::Case;

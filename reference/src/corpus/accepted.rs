@@ -162,8 +162,10 @@ fn large_meshes(random: &mut Random) -> Vec<Mesh> {
         meshes.push(random_mesh(nodes, count, random));
     }
     for fill in [Fill::None, Fill::Some, Fill::All] {
-        let shape = shapes::scattered(64, 256, random);
-        meshes.push(filled(64, &shape, fill, random));
+        for count in [201, 240, 256, 256] {
+            let shape = shapes::scattered(64, count, random);
+            meshes.push(filled(64, &shape, fill, random));
+        }
     }
     meshes
 }

@@ -1,23 +1,38 @@
 //! Accepted books with one byte changed, and random bytes.
 
+use super::meshes::plain;
+use super::shapes::complete;
+use crate::book::bytes_of;
 use crate::random::Random;
 
 pub fn books(accepted: &[Vec<u8>], random: &mut Random) -> Vec<Vec<u8>> {
-    let mut books = Vec::new();
-    let (small, other) = accepted
-        .iter()
-        .partition::<Vec<_>, _>(|book| book.len() <= 160);
-    books.extend((0..700).map(|_| one_byte_changed(random.pick(&small), random)));
-    books.extend((0..10).map(|_| one_byte_changed(random.pick(&other), random)));
-    books.extend((0..60).map(|_| random_bytes(random)));
-    books.extend((0..60).map(|_| plausible_header(random)));
-    books.extend((0..60).map(|_| plausible_records(random)));
+    let mut books = every_value_of_every_byte(&bytes_of(&plain(3, &complete(3))));
+    let is_small = |book: &&Vec<u8>| book.len() <= 160;
+    let (small, other): (Vec<_>, Vec<_>) = accepted.iter().partition(is_small);
+    books.extend((0..700).map(|_| one_byte_changed(&small, random)));
+    books.extend((0..20).map(|_| one_byte_changed(&other, random)));
+    books.extend((0..80).map(|_| random_bytes(random)));
+    books.extend((0..40).map(|_| plausible_header(random)));
+    books.extend((0..40).map(|_| plausible_records(random)));
     books
 }
 
-fn one_byte_changed(book: &[u8], random: &mut Random) -> Vec<u8> {
-    let mut changed = book.to_vec();
-    let at = random.below(book.len());
+fn every_value_of_every_byte(book: &[u8]) -> Vec<Vec<u8>> {
+    let mut books = Vec::new();
+    for at in 0..book.len() {
+        for value in (0..=255).filter(|value| *value != book[at]) {
+            let mut changed = book.to_vec();
+            changed[at] = value;
+            books.push(changed);
+        }
+    }
+    books
+}
+
+/// One of the books with a random byte changed.
+fn one_byte_changed(books: &[&Vec<u8>], random: &mut Random) -> Vec<u8> {
+    let mut changed = random.pick(books).clone();
+    let at = random.below(changed.len());
     changed[at] = match random.below(4) {
         0 => changed[at].wrapping_add(1),
         1 => changed[at].wrapping_sub(1),

@@ -1,8 +1,9 @@
 //! Books with a wrong header, or with more or fewer records than it says.
 
 use super::draft::Draft;
-use super::meshes::{filled, plain, random_mesh, Fill};
+use super::meshes::{filled, longest, plain, random_mesh, Fill, LONGEST_BOOK};
 use super::shapes;
+use crate::case::MOST_BYTES;
 use crate::mesh::{Link, Mesh};
 use crate::random::Random;
 use crate::record::Record;
@@ -104,7 +105,7 @@ fn nodes_too_few(mesh: &Mesh) -> Vec<Draft> {
     nodes.map(draft).collect()
 }
 
-/// 10: 1 to 5 bytes after the last record.
+/// 10: 1 to 5 bytes after the last record, and as many as a case can hold.
 fn extra_bytes(random: &mut Random) -> Vec<Draft> {
     let mut drafts = Vec::new();
     for turn in 0..50 {
@@ -113,10 +114,12 @@ fn extra_bytes(random: &mut Random) -> Vec<Draft> {
         drafts.push(with_extra(&mesh, 1 + turn % 5, random));
     }
     let shape = shapes::scattered(64, 256, random);
-    let largest = filled(64, &shape, Fill::Some, random);
+    let full = filled(64, &shape, Fill::Some, random);
     for count in 1..=5 {
-        drafts.push(with_extra(&largest, count, random));
+        drafts.push(with_extra(&full, count, random));
     }
+    let count = MOST_BYTES - LONGEST_BOOK;
+    drafts.push(with_extra(&longest(random), count, random));
     drafts
 }
 

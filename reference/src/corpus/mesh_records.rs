@@ -3,18 +3,16 @@
 use super::meshes::{filled, longest, plain, random_mesh, Fill};
 use super::questions::room;
 use super::shapes;
+use super::wrong_meshes::{entries_past_count, with_ends, wrong_meshes};
 use crate::book::bytes_of;
 use crate::case::Case;
-use crate::mesh::{Link, Mesh, MOST_LINKS};
+use crate::mesh::{Mesh, MOST_LINKS};
 use crate::random::Random;
 
 pub fn cases(random: &mut Random) -> Vec<Case> {
     let mut meshes = good(random);
     for base in &bases(random) {
-        meshes.extend(wrong_numbers(base));
-        meshes.extend(wrong_links(base));
-        meshes.extend(several_wrong(base));
-        meshes.extend(entries_past_count(base));
+        meshes.extend(wrong_meshes(base));
     }
     meshes.extend(entries_past_many(random));
     meshes.extend(full(random));
@@ -57,152 +55,6 @@ fn good(random: &mut Random) -> Vec<Mesh> {
     for _ in 0..100 {
         let nodes = random.between(2, 64) as u8;
         meshes.push(random_mesh(nodes, random.below(20), random));
-    }
-    meshes
-}
-
-/// 3 and 4, and counts that are not the number of links.
-fn wrong_numbers(base: &Mesh) -> Vec<Mesh> {
-    let mut meshes = Vec::new();
-    for nodes in [0, 1, 2, 64, 65, 255] {
-        meshes.push(Mesh {
-            nodes,
-            ..base.clone()
-        });
-    }
-    let near = [base.count - 1, base.count + 1];
-    for count in [0, 256, 257, 65_535].into_iter().chain(near) {
-        meshes.push(Mesh {
-            count,
-            ..base.clone()
-        });
-        meshes.push(Mesh {
-            nodes: 65,
-            count,
-            ..base.clone()
-        });
-    }
-    meshes
-}
-
-/// 7, 6 and 8 in the first, a middle and the last link.
-fn wrong_links(base: &Mesh) -> Vec<Mesh> {
-    let last = base.counted().len() - 1;
-    let mut meshes = Vec::new();
-    for at in [0, last / 2, last] {
-        for (low, high) in wrong_ends(base, at) {
-            meshes.push(with_ends(base, at, low, high));
-        }
-    }
-    meshes
-}
-
-fn wrong_ends(base: &Mesh, at: usize) -> Vec<(u8, u8)> {
-    let (low, nodes) = (base.links[at].low, base.nodes);
-    // 7, some with 6 or 8 as well.
-    let mut ends = vec![(low, low), (low + 1, low), (0, 0), (255, 0), (255, 255)];
-    ends.extend([(nodes, nodes), (nodes + 1, nodes)]);
-    // 6.
-    ends.extend([(low, nodes), (nodes - 1, nodes), (nodes, nodes + 1)]);
-    ends.extend([(low, 255), (254, 255)]);
-    // 8, and 6 with 8.
-    if let Some(before) = at.checked_sub(1) {
-        let Link { low, high, .. } = base.links[before];
-        ends.push((low, high));
-        if high - low > 1 {
-            ends.push((low, high - 1));
-        }
-        if low > 0 {
-            ends.extend([(low - 1, low), (0, nodes - 1), (low - 1, nodes)]);
-        }
-    }
-    ends
-}
-
-fn with_ends(base: &Mesh, at: usize, low: u8, high: u8) -> Mesh {
-    let mut mesh = base.clone();
-    mesh.links[at] = Link {
-        low,
-        high,
-        ..mesh.links[at]
-    };
-    mesh
-}
-
-/// Several faults, to show which is met first.
-fn several_wrong(base: &Mesh) -> Vec<Mesh> {
-    let last = base.counted().len() - 1;
-    let same = base.links[0];
-    let mut meshes = Vec::new();
-    // 7, 6 or 8 at link 1, then 7 or 6 at the last link.
-    for (low, high) in [(3, 3), (3, 255), (same.low, same.high)] {
-        let earlier = with_ends(base, 1, low, high);
-        meshes.push(with_ends(&earlier, last, 2, 1));
-        meshes.push(with_ends(&earlier, last, 2, 200));
-    }
-    // Each of them with 13, with 4 and with 3.
-    for index in 0..meshes.len() {
-        let mut past = meshes[index].clone();
-        past.links[200].pair = 7;
-        meshes.push(Mesh {
-            count: 257,
-            ..past.clone()
-        });
-        meshes.push(Mesh {
-            nodes: 1,
-            ..past.clone()
-        });
-        meshes.push(past);
-    }
-    // 13 with 3, with 4, and with both.
-    let mut past = base.clone();
-    past.links[255].high = 1;
-    meshes.push(Mesh {
-        nodes: 0,
-        ..past.clone()
-    });
-    meshes.push(Mesh {
-        count: 257,
-        ..past.clone()
-    });
-    meshes.push(Mesh {
-        nodes: 65,
-        count: 65_535,
-        ..past
-    });
-    meshes
-}
-
-/// 13: one field of one entry past the count.
-fn entries_past_count(base: &Mesh) -> Vec<Mesh> {
-    let zero = Link::ZERO;
-    let entries = [
-        Link { low: 1, ..zero },
-        Link { high: 1, ..zero },
-        Link { length: 1, ..zero },
-        Link {
-            length: 256,
-            ..zero
-        },
-        Link { pair: 1, ..zero },
-        Link {
-            pair: 1 << 24,
-            ..zero
-        },
-        Link {
-            low: base.nodes - 2,
-            high: base.nodes - 1,
-            ..zero
-        },
-    ];
-    let count = base.counted().len();
-    let mut meshes = Vec::new();
-    for at in [count, (count + 255) / 2, 255] {
-        for entry in entries {
-            let mut mesh = base.clone();
-            mesh.links[at] = entry;
-            meshes.push(mesh);
-        }
     }
     meshes
 }

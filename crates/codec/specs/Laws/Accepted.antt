@@ -1,0 +1,64 @@
+-- What an accepted record, header and book have. Assumes nothing.
+use Prim.Native.Nat.{ℕ, zero, suc, _+_, _≤_, _<_}
+use mathlib.Core.Path.{_≡_}
+use mathlib.Core.Bool.{Bool, true, false, not, _&&_, and-eq-true-iff}
+use mathlib.Core.List.{List}
+use borrow.Author.Tests.{ltb-true, leb-true, eqb-true, leb-false, not-true}
+use lib.Dec.{ltb, leb, eqb}
+use lib.ListN.{length, getD, drop}
+use Rattle.scan.specs.Bytes.{number}
+use Rattle.mesh.specs.declared.Link.{Link}
+use Rattle.mesh.specs.declared.Answer.the-variants.{Accepted}
+use Rattle.mesh.specs.Mesh.{linkAnswer, nodesFit, countFits, zeroLink}
+use Rattle.mesh.specs.Laws.Answer.{must-accepted, andThen-accepted}
+use Rattle.codec.specs.Field.{needless}
+use Rattle.codec.specs.Record.{fieldsOf, reserved, recordLength, linkOf, recordAnswer}
+use Rattle.codec.specs.Book.{knownVersion, version, headerAnswer, recordsAnswer, bookAnswer}
+
+-- the record at the front of s, after the link p, meets no refusal
+pub record GoodRecord (n : ℕ) (p : Link) (at : ℕ) (s : List ℕ) : Type 0 where
+  pub some : 0 < length s
+  pub unreserved : reserved (getD s 0 0) ≡ false
+  pub whole : recordLength (getD s 0 0) ≤ length s
+  pub needed : needless (getD s 0 0) (fieldsOf p (linkOf p s)) ≡ false
+  pub fits : linkAnswer n p (linkOf p s) at ≡ Accepted
+
+pub record-accepted : (n end : ℕ) (p : Link) (at : ℕ) (s : List ℕ) → recordAnswer n end p at s ≡ Accepted → GoodRecord n p at s
+unfolding recordAnswer
+record-accepted n end p at s e =
+    let (some, e1) = must-accepted (ltb 0 (length s)) _ _ _ e in
+    let (open′, e2) = must-accepted (not (reserved (getD s 0 0))) _ _ _ e1 in
+    let (whole, e3) = must-accepted (leb (recordLength (getD s 0 0)) (length s)) _ _ _ e2 in
+    let (needed, e4) = must-accepted (not (needless (getD s 0 0) (fieldsOf p (linkOf p s)))) _ _ _ e3 in
+    record { some = ltb-true _ _ some; unreserved = not-true _ open′; whole = leb-true _ _ whole; needed = not-true _ needed; fits = e4 }
+
+-- the header of s meets no refusal
+pub record GoodHeader (s : List ℕ) : Type 0 where
+  pub four : 4 ≤ length s
+  pub version : knownVersion (getD s 0 0) ≡ true
+  pub nodes : nodesFit (getD s 1 0) ≡ true
+  pub count : countFits (number 2 s 2) ≡ true
+
+pub header-accepted : (s : List ℕ) → headerAnswer s ≡ Accepted → GoodHeader s
+unfolding headerAnswer
+header-accepted s e =
+    let (four, e1) = must-accepted (leb 4 (length s)) _ _ _ e in
+    let (version, e2) = must-accepted (knownVersion (getD s 0 0)) _ _ _ e1 in
+    let (nodes, e3) = must-accepted (nodesFit (getD s 1 0)) _ _ _ e2 in
+    let (count, e4) = must-accepted (countFits (number 2 s 2)) _ _ _ e3 in
+    record { four = leb-true _ _ four; version = version; nodes = nodes; count = count }
+
+-- at least one record is read, and then the others
+pub records-accepted : (n end : ℕ) (p : Link) (at k : ℕ) (s : List ℕ) → recordsAnswer n end p at (suc k) s ≡ Accepted
+    → GoodRecord n p at s
+    × (recordsAnswer n end (linkOf p s) (at + recordLength (getD s 0 0)) k (drop (recordLength (getD s 0 0)) s) ≡ Accepted)
+unfolding recordsAnswer
+records-accepted n end p at k s e =
+    let (first, rest) = andThen-accepted (recordAnswer n end p at s) _ e in
+    (record-accepted n end p at s first, rest)
+
+-- the whole book is read
+pub book-accepted : (s : List ℕ) → bookAnswer s ≡ Accepted
+    → GoodHeader s × (recordsAnswer (getD s 1 0) (length s) zeroLink 4 (number 2 s 2) (drop 4 s) ≡ Accepted)
+unfolding bookAnswer
+book-accepted s e = let (header, rest) = andThen-accepted (headerAnswer s) _ e in (header-accepted s header, rest)

@@ -1,0 +1,256 @@
+//! Records that a reader refuses.
+
+use crate::mesh::{Link, Mesh};
+use crate::record::{low_when_absent, Record};
+use crate::refusal::Reason;
+
+/// A wrong record and the refusal that it meets first.
+pub type Fault = (Reason, Record);
+
+/// A link and what its record depends on.
+pub struct Spot {
+    nodes: u8,
+    link: Link,
+    previous: Option<Link>,
+}
+
+impl Spot {
+    pub fn of(mesh: &Mesh, at: usize) -> Spot {
+        Spot {
+            nodes: mesh.nodes,
+            link: mesh.links[at],
+            previous: at.checked_sub(1).map(|before| mesh.links[before]),
+        }
+    }
+
+    /// The link's own record.
+    fn record(&self) -> Record {
+        Record::of(&self.link, self.previous.as_ref())
+    }
+
+    /// The record with other ends, none of them needless.
+    fn with_ends(&self, low: u8, high: u8) -> Record {
+        let link = Link {
+            low,
+            high,
+            ..self.link
+        };
+        Record::of(&link, self.previous.as_ref())
+    }
+
+    fn low_when_absent(&self) -> u8 {
+        low_when_absent(self.previous.as_ref())
+    }
+}
+
+/// Every kind of wrong record in this place.
+pub fn faults(spot: &Spot) -> Vec<Fault> {
+    let mut faults = Vec::new();
+    faults.extend(reserved_bits(spot));
+    faults.extend(needless_fields(spot));
+    faults.extend(low_not_below_high(spot));
+    faults.extend(end_not_below_nodes(spot));
+    faults.extend(not_after_previous(spot));
+    faults.extend(reserved_and_other(spot));
+    faults.extend(needless_and_other(spot));
+    faults.extend(ends_with_two_faults(spot));
+    faults
+}
+
+/// 5, each bit and all.
+fn reserved_bits(spot: &Spot) -> Vec<Fault> {
+    let record = spot.record();
+    let with_bits = |reserved| Record { reserved, ..record };
+    let records = [0x10, 0x20, 0x40, 0x80, 0xf0].map(with_bits);
+    met_by(Reason::ReservedBit, records)
+}
+
+/// 9, each field and all.
+fn needless_fields(spot: &Spot) -> Vec<Fault> {
+    let record = spot.record();
+    let low = Some(spot.low_when_absent());
+    let high = Some(spot.link.low + 1);
+    let both = Some(spot.low_when_absent() + 1);
+    let (length, pair) = (Some(0), Some(0));
+    let records = [
+        Record { low, ..record },
+        Record { high, ..record },
+        Record { length, ..record },
+        Record { pair, ..record },
+        Record {
+            reserved: 0,
+            low,
+            high: both,
+            length,
+            pair,
+        },
+    ];
+    met_by(Reason::NeedlessField, records)
+}
+
+/// 7, equal and falling ends.
+fn low_not_below_high(spot: &Spot) -> Vec<Fault> {
+    let low = spot.link.low;
+    let records = [
+        spot.with_ends(low, low),
+        spot.with_ends(low, 0),
+        spot.with_ends(low + 1, low),
+        spot.with_ends(spot.nodes - 1, 0),
+        spot.with_ends(255, 0),
+        spot.with_ends(255, 255),
+    ];
+    met_by(Reason::LowNotBelowHigh, records)
+}
+
+/// 6, one end and both; the high end absent and present.
+fn end_not_below_nodes(spot: &Spot) -> Vec<Fault> {
+    let nodes = spot.nodes;
+    let records = [
+        spot.with_ends(spot.link.low, nodes),
+        spot.with_ends(spot.link.low, 255),
+        spot.with_ends(nodes - 1, nodes),
+        spot.with_ends(nodes, nodes + 1),
+        spot.with_ends(nodes, nodes + 2),
+        spot.with_ends(253, 255),
+        spot.with_ends(254, 255),
+        // An absent high end after the low end 255 is 256.
+        Record {
+            low: Some(255),
+            high: None,
+            ..spot.record()
+        },
+    ];
+    met_by(Reason::EndNotBelowNodes, records)
+}
+
+/// 8, equal and falling pairs; a first record cannot meet it.
+fn not_after_previous(spot: &Spot) -> Vec<Fault> {
+    let Some(previous) = spot.previous else {
+        return Vec::new();
+    };
+    let (low, high) = (previous.low, previous.high);
+    let mut records = vec![spot.with_ends(low, high)];
+    records.extend(without_ends());
+    if high - low > 1 {
+        records.push(spot.with_ends(low, high - 1));
+    }
+    if low > 0 {
+        records.push(spot.with_ends(low - 1, low));
+        records.push(spot.with_ends(low - 1, spot.nodes - 1));
+        records.push(spot.with_ends(0, low));
+    }
+    met_by(Reason::NotAfterPrevious, records)
+}
+
+/// The bit maps 0, 4, 8 and 12: both ends are absent.
+fn without_ends() -> Vec<Record> {
+    let mut records = Vec::new();
+    for length in [None, Some(9)] {
+        for pair in [None, Some(9)] {
+            records.push(Record {
+                reserved: 0,
+                low: None,
+                high: None,
+                length,
+                pair,
+            });
+        }
+    }
+    records
+}
+
+/// 5 before 9, 7, 6 and 8.
+fn reserved_and_other(spot: &Spot) -> Vec<Fault> {
+    let mut others = needless_fields(spot);
+    others.extend(low_not_below_high(spot).first());
+    others.extend(end_not_below_nodes(spot).first());
+    others.extend(not_after_previous(spot).first());
+    let with_bit = |(_, record): Fault| Record {
+        reserved: 0x10,
+        ..record
+    };
+    met_by(Reason::ReservedBit, others.into_iter().map(with_bit))
+}
+
+/// 9 before 7, 6 and 8.
+fn needless_and_other(spot: &Spot) -> Vec<Fault> {
+    let record = spot.record();
+    let (low, nodes) = (spot.link.low, spot.nodes);
+    let low_absent = Some(spot.low_when_absent());
+    let (length, pair) = (Some(0), Some(0));
+    let mut records = vec![
+        Record {
+            length,
+            ..spot.with_ends(low, low)
+        },
+        Record {
+            low: low_absent,
+            high: low_absent,
+            ..record
+        },
+        Record {
+            pair,
+            ..spot.with_ends(nodes, 0)
+        },
+        Record {
+            pair,
+            ..spot.with_ends(low, nodes)
+        },
+        Record {
+            low: low_absent,
+            high: Some(nodes),
+            ..record
+        },
+        Record {
+            low: Some(nodes),
+            high: Some(nodes + 1),
+            ..record
+        },
+        Record {
+            low: Some(254),
+            high: Some(255),
+            ..record
+        },
+        Record {
+            low: Some(255),
+            high: None,
+            length,
+            ..record
+        },
+    ];
+    if let Some(previous) = spot.previous {
+        let same = spot.with_ends(previous.low, previous.high);
+        records.push(Record { length, ..same });
+        records.push(Record {
+            low: low_absent,
+            ..same
+        });
+    }
+    met_by(Reason::NeedlessField, records)
+}
+
+/// 7 before 6, 7 before 8, and 6 before 8.
+fn ends_with_two_faults(spot: &Spot) -> Vec<Fault> {
+    let nodes = spot.nodes;
+    let mut falling = vec![
+        spot.with_ends(nodes + 1, nodes),
+        spot.with_ends(nodes, nodes),
+        spot.with_ends(nodes, 0),
+        spot.with_ends(255, nodes),
+    ];
+    let mut outside = Vec::new();
+    if let Some(Link { low, .. }) = spot.previous {
+        falling.extend([(low, low), (low, 0), (0, 0)].map(|(a, b)| spot.with_ends(a, b)));
+        if low > 0 {
+            outside.push(spot.with_ends(low - 1, nodes));
+            outside.push(spot.with_ends(0, 255));
+        }
+    }
+    let mut faults = met_by(Reason::LowNotBelowHigh, falling);
+    faults.extend(met_by(Reason::EndNotBelowNodes, outside));
+    faults
+}
+
+fn met_by(reason: Reason, records: impl IntoIterator<Item = Record>) -> Vec<Fault> {
+    records.into_iter().map(|record| (reason, record)).collect()
+}
