@@ -1,7 +1,8 @@
 // The header of a book.
 use crate::number::number_at;
-use mesh::{count_fits, nodes_fit, Answer};
-
+use mesh::Answer;
+use mesh::count_fits;
+use mesh::nodes_fit;
 ghost use mathlib.Core.Path.{_≡_};
 ghost use Rattle.codec.specs.Book.{knownVersion, headerAnswer};
 

@@ -1,6 +1,5 @@
 // The layout of a record, which the reader and the writer share: bit map, widths, absent values.
 use mesh::Link;
-
 ghost use mathlib.Core.Path.{_≡_};
 ghost use mathlib.Core.Bool.{cond};
 ghost use Prim.Native.Nat.{_≤_, _<_};
@@ -46,7 +45,8 @@ pub(crate) fn record_length(b: u8) -> usize
     if reserved(b) {
         return 0;
     }
-    1 + taken(odd(b), 1)
+    1
+        + taken(odd(b), 1)
         + taken(odd(b / 2), 1)
         + taken(odd(b / 2 / 2), 2)
         + taken(odd(b / 2 / 2 / 2), 4)

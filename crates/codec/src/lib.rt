@@ -10,10 +10,10 @@ mod number;
 mod reader;
 mod record_reader;
 mod record_writer;
-
 mod writer;
 
-use mesh::{Answer, Mesh};
+use mesh::Answer;
+use mesh::Mesh;
 
 // What reading gives: the mesh, all zero on a refusal.
 pub struct Decoded {

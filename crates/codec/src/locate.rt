@@ -1,8 +1,8 @@
 // Where one link's record stands in a book.
+use crate::Span;
+use crate::decode;
 use crate::layout::record_length;
-use crate::{decode, Span};
 use mesh::Answer;
-
 ghost use mathlib.Core.Path.{_≡_};
 ghost use Prim.Native.Nat.{_+_, _≤_, _<_};
 ghost use lib.ListN.{length, getD};

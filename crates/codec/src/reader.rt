@@ -1,9 +1,12 @@
 // Reading the records of a book.
+use crate::Decoded;
 use crate::number::number_at;
 use crate::record_reader::read_record;
-use crate::Decoded;
-use mesh::{zero_link, zero_mesh, Answer, Link, Mesh};
-
+use mesh::Answer;
+use mesh::Link;
+use mesh::Mesh;
+use mesh::zero_link;
+use mesh::zero_mesh;
 ghost use mathlib.Core.Path.{_≡_};
 ghost use Rattle.mesh.specs.declared.Answer.the-variants.{Accepted};
 ghost use Rattle.mesh.specs.Mesh.{zeroMesh};

@@ -1,8 +1,15 @@
 // Reading one record.
-use crate::layout::{bit_map, odd, record_length, reserved, taken, Fields};
+use crate::layout::Fields;
+use crate::layout::bit_map;
+use crate::layout::odd;
+use crate::layout::record_length;
+use crate::layout::reserved;
+use crate::layout::taken;
 use crate::number::number_at;
-use mesh::{ends_answer, zero_link, Answer, Link};
-
+use mesh::Answer;
+use mesh::Link;
+use mesh::ends_answer;
+use mesh::zero_link;
 ghost use mathlib.Core.Path.{_≡_};
 ghost use mathlib.Core.Bool.{cond, false};
 ghost use mathlib.Core.Logic.{_⊎_};

@@ -1,8 +1,9 @@
 // Writing one record.
-use crate::layout::{bit_map, record_length, Fields};
+use crate::layout::Fields;
+use crate::layout::bit_map;
+use crate::layout::record_length;
 use crate::number::put_bytes;
 use mesh::Link;
-
 ghost use mathlib.Core.Path.{_≡_};
 ghost use Prim.Native.Nat.{_+_, _≤_, _<_};
 ghost use lib.ListN.{length};

@@ -1,9 +1,11 @@
 // Writing the records of a mesh.
 use crate::header::VERSION;
 use crate::number::put_bytes;
-use crate::record_writer::{length_of, put_record};
-use mesh::{zero_link, Link, Mesh};
-
+use crate::record_writer::length_of;
+use crate::record_writer::put_record;
+use mesh::Link;
+use mesh::Mesh;
+use mesh::zero_link;
 ghost use mathlib.Core.Path.{_≡_};
 ghost use Prim.Native.Nat.{_+_, _≤_};
 ghost use lib.ListN.{length, take};

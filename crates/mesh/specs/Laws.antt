@@ -1,3 +1,6 @@
 pub mod Answer
 pub mod Links
+pub mod Ends
+pub mod Refused
 pub mod Checked
+pub mod GoodMesh

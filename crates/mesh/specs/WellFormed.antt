@@ -16,9 +16,13 @@ pub record Joins (n : ℕ) (l : Link) : Type 0 where
   pub apart : l .low < l .high
   pub inside : l .high < n
 
--- the pair of p stands before the pair of l in the order of (low, high)
+-- the pair (low, high) stands after the pair (plow, phigh)
+abbrev pub After : ℕ → ℕ → ℕ → ℕ → Type 0
+After plow phigh low high = (plow < low) ⊎ ((plow ≡ low) × (phigh < high))
+
+-- the pair of l stands after the pair of p
 abbrev pub Rises : Link → Link → Type 0
-Rises p l = (p .low < l .low) ⊎ ((p .low ≡ l .low) × (p .high < l .high))
+Rises p l = After (p .low) (p .high) (l .low) (l .high)
 
 -- 2 to 64 nodes, 0 to 256 links in strictly rising order of (low, high), entries past the last link all zero
 pub record WellFormed (m : Mesh) : Type 0 where

@@ -5,7 +5,8 @@ ghost use Rattle.mesh.specs.WellFormed.{InRange};
 
 mod links;
 
-use links::{links_answer, rest_is_zero};
+use links::links_answer;
+use links::rest_is_zero;
 
 pub struct Link {
     pub low: u8,
@@ -90,9 +91,6 @@ pub fn ends_answer(nodes: u8, prev: Link, low: usize, high: usize, place: usize)
     let n = nodes as usize;
     if high <= low {
         return Answer::Refused { number: 7, place };
-    }
-    if n <= low {
-        return Answer::Refused { number: 6, place };
     }
     if n <= high {
         return Answer::Refused { number: 6, place };

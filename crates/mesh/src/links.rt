@@ -1,6 +1,9 @@
 // The loops over a mesh's 256 entries.
-use crate::{ends_answer, zero_link, Answer, Link, Mesh};
-
+use crate::Answer;
+use crate::Link;
+use crate::Mesh;
+use crate::ends_answer;
+use crate::zero_link;
 ghost use mathlib.Core.Path.{_≡_};
 ghost use Prim.Native.Nat.{_≤_};
 ghost use lib.ListN.{take, drop};

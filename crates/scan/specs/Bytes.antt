@@ -1,5 +1,5 @@
 -- Numbers as bytes, low byte first. A number that was written is read, and the bytes of a number that was read are written.
-use Prim.Native.Nat.{ℕ, zero, suc, _+_, _*_, _/_, _%_, _^_, _≤_, _<_}
+use Prim.Native.Nat.{ℕ, zero, suc, _+_, _-_, _*_, _/_, _%_, _^_, _≤_, _<_}
 use mathlib.Core.Path.{_≡_, refl, sym, _∙_, ap}
 use mathlib.Core.List.{List, [], _∷_, _++_}
 use native.Mathlib.Nat.{add-zero, pow-suc}
@@ -53,3 +53,10 @@ bytes-number (suc w) s at small h =
 
 pub bytes-drop : (s : List ℕ) (k : ℕ) → AreBytes s → AreBytes (drop k s)
 bytes-drop s k small i = rw (getD-drop k s i 0) (small (k + i))
+
+-- the bytes from byte i on, of which x is what is left of the number: one byte more, and the end
+pub bytes-next : (w i x : ℕ) → i < w → bytes (w - i) x ≡ x % 256 ∷ bytes (w - (i + 1)) (x / 256)
+bytes-next w i x h = let e : w - i ≡ suc (w - (i + 1)) = omega arith in ap (λ (k : ℕ). bytes k x) e
+
+pub bytes-end : (w i x : ℕ) → w ≤ i → bytes (w - i) x ≡ []
+bytes-end w i x h = let e : w - i ≡ 0 = omega arith in rw e

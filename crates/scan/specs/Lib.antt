@@ -6,4 +6,5 @@ pub mod Distinct
 pub mod Sweep
 pub mod Part
 pub mod Store
+pub mod Storing
 pub mod Bytes

@@ -4,8 +4,9 @@ use mathlib.Core.Path.{_≡_, sym, _∙_, ap}
 use mathlib.Core.List.{List, [], _∷_, map}
 use native.Mathlib.Nat.{add-zero}
 use native.Mathlib.Numerals.{add-one}
+use native.Mathlib.Decide.{decLt}
 use native.Mathlib.Omega.{arith}
-use lib.ListN.{length, getD, take, drop, length-map, length-take, length-drop, drop-of-length-le}
+use lib.ListN.{length, getD, take, drop, length-map, length-take, length-drop, drop-of-length-le, List·getD-eq-default}
 use lib.Seq.{drop-cons, getD-take, getD-drop, length-take-le, take-all}
 
 -- the length of an array of structs, which owning it tells of the list mapped
@@ -30,3 +31,13 @@ drop-take-end l k i h = drop-of-length-le (take k l) {i = i} (simp length-take (
 -- the slice &s[at..] as a list
 pub part-rest : {A : Type 0} (s : List A) (at : ℕ) → take (length s - at) (drop at s) ≡ drop at s
 part-rest s at = take-all (length s - at) (drop at s) (simp length-drop (omega arith))
+
+-- what holds of every element and of the default holds of the first k elements
+pub each-taken : {A : Type 0} (P : A → Type 0) (d : A) (l : List A) (k : ℕ) → ((i : ℕ) → P (getD l i d)) → (i : ℕ) → P (getD (take k l) i d)
+each-taken P d l k h i = go (decLt i k)
+  where
+    go : Dec (i < k) → P (getD (take k l) i d)
+    go (yes b) = rw (getD-take k l i d b) (h i)
+    go (no b) =
+        rw (List·getD-eq-default (take k l) d {n = i} (simp length-take (omega arith)))
+        (rw (List·getD-eq-default l d {n = length l} (omega arith)) at (h (length l)))

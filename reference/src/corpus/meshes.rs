@@ -47,11 +47,11 @@ pub fn random_mesh(nodes: u8, count: usize, random: &mut Random) -> Mesh {
     filled(nodes, &shape, fill, random)
 }
 
-/// The length of the longest book of a well-formed mesh. Its 256 records have
-/// 7 bytes each without the ends. A low end is written only where it is above
-/// the one before, so at most once for each of 1 to 62; a high end only where
-/// it is above low + 1, which 62 does not have below N. So the ends take at
-/// most 256 + 61 bytes.
+/// The length of the longest book of a well-formed mesh. Each of its 256
+/// records has 7 bytes without the ends. A low end is written only where it is
+/// above the one before, so at most once for each of 1 to 62. A high end is
+/// written only where it is above low + 1, so not with the low end 62. The ends
+/// therefore take at most 256 + 61 bytes.
 pub const LONGEST_BOOK: usize = 4 + 256 * 7 + 256 + 61;
 
 /// A mesh whose book has the greatest length.

@@ -1,19 +1,20 @@
 -- What an accepted record, header and book have. Assumes nothing.
-use Prim.Native.Nat.{ℕ, zero, suc, _+_, _≤_, _<_}
-use mathlib.Core.Path.{_≡_}
-use mathlib.Core.Bool.{Bool, true, false, not, _&&_, and-eq-true-iff}
+use Prim.Native.Nat.{ℕ, suc, _+_, _≤_, _<_}
+use mathlib.Core.Path.{_≡_, refl, sym, _∙_}
+use mathlib.Core.Bool.{true, false, not}
 use mathlib.Core.List.{List}
-use borrow.Author.Tests.{ltb-true, leb-true, eqb-true, leb-false, not-true}
-use lib.Dec.{ltb, leb, eqb}
+use borrow.Author.Tests.{ltb-true, leb-true, not-true}
+use lib.Dec.{ltb, leb}
 use lib.ListN.{length, getD, drop}
 use Rattle.scan.specs.Bytes.{number}
 use Rattle.mesh.specs.declared.Link.{Link}
-use Rattle.mesh.specs.declared.Answer.the-variants.{Accepted}
+use Rattle.mesh.specs.declared.Answer.{Answer}
+use Rattle.mesh.specs.declared.Answer.the-variants.{Accepted, Refused}
 use Rattle.mesh.specs.Mesh.{linkAnswer, nodesFit, countFits, zeroLink}
 use Rattle.mesh.specs.Laws.Answer.{must-accepted, andThen-accepted}
 use Rattle.codec.specs.Field.{needless}
 use Rattle.codec.specs.Record.{fieldsOf, reserved, recordLength, linkOf, recordAnswer}
-use Rattle.codec.specs.Book.{knownVersion, version, headerAnswer, recordsAnswer, bookAnswer}
+use Rattle.codec.specs.Book.{knownVersion, headerAnswer, recordsAnswer, bookAnswer, meshOf, decodedAs, decoded}
 
 -- the record at the front of s, after the link p, meets no refusal
 pub record GoodRecord (n : ℕ) (p : Link) (at : ℕ) (s : List ℕ) : Type 0 where
@@ -62,3 +63,21 @@ pub book-accepted : (s : List ℕ) → bookAnswer s ≡ Accepted
     → GoodHeader s × (recordsAnswer (getD s 1 0) (length s) zeroLink 4 (number 2 s 2) (drop 4 s) ≡ Accepted)
 unfolding bookAnswer
 book-accepted s e = let (header, rest) = andThen-accepted (headerAnswer s) _ e in (header-accepted s header, rest)
+
+-- ---- what reading gives
+
+pub decoded-answer : (s : List ℕ) → decoded s .answer ≡ bookAnswer s
+unfolding decoded
+decoded-answer s = go (bookAnswer s)
+  where
+    go : (a : Answer) → decodedAs a (meshOf s) .answer ≡ a
+    go Accepted = refl
+    go (Refused number place) = refl
+
+-- an accepted book is read, and its mesh is given
+pub decoded-mesh : (s : List ℕ) → decoded s .answer ≡ Accepted
+    → (bookAnswer s ≡ Accepted) × (decoded s ≡ record { mesh = meshOf s; answer = Accepted })
+unfolding decoded
+decoded-mesh s e =
+    let a = sym (decoded-answer s) ∙ e in
+    (a, rw a)

@@ -31,7 +31,7 @@ count-fits-requires c κs = search needs
 
 returns-2 : tie.Need-returns-2
 unfolding meshAnswer
-returns-2 c = 
+returns-2 c =
     let d = c .before .before in
     (simp (sym (d .before .nodes-fit .ensures) ∙ not-false _ (d .if1 .left), sym (c .before .count-fits .ensures) ∙ not-true _ (c .if2 .taken)), in-range (d .before .before))
 
@@ -46,7 +46,7 @@ enum-told-2 c = search needs
 
 returns-3 : tie.Need-returns-3
 unfolding meshAnswer
-returns-3 c = 
+returns-3 c =
     let t = c .enum-told2 .given in
     let e = c .before .before in
     let d = e .before .before .before in
@@ -57,7 +57,7 @@ rest-is-zero-requires c κs = few (c .before .before .before)
 
 returns-4 : tie.Need-returns-4
 unfolding meshAnswer
-returns-4 c = 
+returns-4 c =
     let t = c .before .before .enum-told .given in
     let e = c .before .before .before .before in
     let d = e .before .before .before in
@@ -65,7 +65,7 @@ returns-4 c =
 
 returns-5 : tie.Need-returns-5
 unfolding meshAnswer
-returns-5 c = 
+returns-5 c =
     let t = c .before .before .enum-told .given in
     let e = c .before .before .before .before in
     let d = e .before .before .before in

@@ -1,4 +1,4 @@
--- What an accepted answer says of the tests behind it. Assumes nothing.
+-- What an answer tells of the tests behind it. Assumes nothing.
 use Prim.Native.Nat.{ℕ}
 use mathlib.Core.Path.{_≡_, refl}
 use mathlib.Core.Bool.{Bool, true, false}
@@ -18,3 +18,31 @@ must-accepted false number place next e = refused-accepted e
 pub andThen-accepted : (a next : Answer) → andThen a next ≡ Accepted → (a ≡ Accepted) × (next ≡ Accepted)
 andThen-accepted Accepted next e = (refl, e)
 andThen-accepted (Refused number place) next e = refused-accepted e
+
+-- what an answer tells: A where it accepts, R of its number and place where it refuses
+pub data Tells (A : Type 0) (R : ℕ → ℕ → Type 0) : Answer → Type 0 where
+  accepting : A → Tells A R Accepted
+  refusing : {number place : ℕ} → R number place → Tells A R (Refused number place)
+
+module _ {A : Type 0} {R : ℕ → ℕ → Type 0} where
+  pub told-accepted : Tells A R Accepted → A
+  told-accepted (accepting x) = x
+
+  pub told-refused : {number place : ℕ} → Tells A R (Refused number place) → R number place
+  told-refused (refusing r) = r
+
+  -- an answer none of whose refusals can be is an acceptance
+  pub tells-accepted : {a : Answer} → Tells A R a → ((number place : ℕ) → R number place → ⊥) → a ≡ Accepted
+  tells-accepted (accepting x) never = refl
+  tells-accepted (refusing r) never = absurd (never _ _ r)
+
+  module _ {B : Type 0} {S : ℕ → ℕ → Type 0} where
+    pub tells-map : {a : Answer} → Tells A R a → (A → B) → ((number place : ℕ) → R number place → S number place) → Tells B S a
+    tells-map (accepting x) f g = accepting (f x)
+    tells-map (refusing r) f g = refusing (g _ _ r)
+
+    -- the next answer counts where the first accepts
+    pub tells-andThen : {a next : Answer} → Tells A R a → (A → Tells B S next) → ((number place : ℕ) → R number place → S number place)
+        → Tells B S (andThen a next)
+    tells-andThen (accepting x) f g = f x
+    tells-andThen (refusing r) f g = refusing (g _ _ r)

@@ -1,6 +1,6 @@
 -- What one turn of a loop over the links does to the checks. Serves the proofs of `links_answer` and `rest_is_zero`. Assumes nothing.
 use Prim.Native.Nat.{ℕ, _+_, _≤_, _<_}
-use mathlib.Core.Path.{_≡_, sym, _∙_}
+use mathlib.Core.Path.{_≡_, _∙_}
 use mathlib.Core.Bool.{true, false, _&&_}
 use mathlib.Core.List.{List}
 use native.Mathlib.Numerals.{add-one}
@@ -8,7 +8,6 @@ use lib.ListN.{length, getD, take, drop, drop-of-length-le}
 use lib.Seq.{drop-cons}
 use Rattle.scan.specs.Part.{drop-take, drop-take-end}
 use Rattle.mesh.specs.declared.Link.{Link}
-use Rattle.mesh.specs.declared.Answer.{Answer}
 use Rattle.mesh.specs.declared.Answer.the-variants.{Accepted, Refused}
 use Rattle.mesh.specs.Mesh.{zeroLink, linkAnswer, andThen, linksAnswer, isZero, allZero}
 

@@ -47,7 +47,7 @@ enum-told-2 : tie.Need-enum-told-2 Inv-loop μ-loop
 enum-told-2 c = search needs
 
 returns : tie.Need-returns Inv-loop μ-loop
-returns c = 
+returns c =
     let a = c .before .before .before .before .before .before .before .before .before .args .t1 in
     let lo = c .before .before .before .before .before .before .before .loop in
     let sized : length (a .links) ≡ 256 = search length-mapped in
@@ -61,14 +61,14 @@ loop-less : tie.Need-loop-less Inv-loop μ-loop
 loop-less c = search needs
 
 loop-again : tie.Need-loop-again Inv-loop μ-loop
-loop-again c = 
+loop-again c =
     let a = c .before .before .before .before .before .before .before .before .before .args .t1 in
     let lo = c .before .before .before .before .before .before .before .loop in
     let sized : length (a .links) ≡ 256 = search length-mapped in
     (omega arith, lo .inv .1 ∙ links-next (a .nodes) (lo .prev) (a .links) (a .count) (lo .i) (omega arith) (omega arith) (sym (c .before .before .ends-answer .ensures) ∙ c .enum-told .given .1))
 
 returns-2 : tie.Need-returns-2 Inv-loop μ-loop
-returns-2 c = 
+returns-2 c =
     let a = c .before .before .before .args .t1 in
     let lo = c .before .loop in
     sym (lo .inv .1 ∙ links-end (a .nodes) (lo .prev) (a .links) (a .count) (lo .i) (c .loop-test .left))

@@ -1,0 +1,154 @@
+-- Any list of fields: what was written is read, and what was read is written, by induction over the list. Also the length of a record. Assumes nothing.
+use Prim.Native.Nat.{ℕ, zero, suc, _+_, _*_, _/_, _%_, _^_, _≤_, _<_}
+use mathlib.Core.Path.{_≡_, refl, sym, _∙_, ap}
+use mathlib.Core.List.{List, [], _∷_, _++_, map, append-assoc}
+use mathlib.Core.Bool.{Bool, true, false, cond, not, _&&_, _||_}
+use native.Mathlib.Nat.{add-zero, add-assoc, pow-suc}
+use native.Mathlib.Omega.{arith}
+use borrow.Author.Tests.{eqb-true, eqb-false, eq-eqb, ne-eqb, lt-leb, not-false}
+use lib.Dec.{eqb}
+use lib.ListN.{length, getD, take, drop, length-append}
+use lib.Seq.{drop-drop, drop-append-seam, take-add}
+use Rattle.scan.specs.Bytes.{bytes, number, AreBytes, length-bytes, number-bytes, bytes-number}
+use Rattle.scan.specs.Total.{bit}
+use Rattle.scan.specs.Test.{branch, or-false}
+use Rattle.mesh.specs.declared.Link.{Link}
+use Rattle.codec.specs.Field.{Field, differs, fieldBytes, fieldsBytes, bitMap, odd, stands, extent, needless}
+use Rattle.codec.specs.Record.{field, widths, fieldsOf, recordOf, reserved, recordLength}
+
+-- ---- bits
+
+odd-bit : (t : Bool) (n : ℕ) → odd (bit t + 2 * n) ≡ t
+odd-bit true n = eq-eqb ((1 + 2 * n) % 2) 1 (omega arith)
+odd-bit false n = ne-eqb ((0 + 2 * n) % 2) 1 (λ e. omega arith)
+
+half-bit : (t : Bool) (n : ℕ) → (bit t + 2 * n) / 2 ≡ n
+half-bit true n = omega arith
+half-bit false n = omega arith
+
+-- a number by its lowest bit and the others
+bit-half : (b : ℕ) → bit (odd b) + 2 * (b / 2) ≡ b
+bit-half b =
+    branch (λ (v : ℕ). v + 2 * (b / 2) ≡ b) (odd b)
+    (λ e. let o : b % 2 ≡ 1 = eqb-true _ 1 e in omega arith)
+    (λ e. let o : b % 2 ≡ 1 → ⊥ = eqb-false _ 1 e in omega arith)
+
+-- ---- lengths
+
+-- the bytes of each field
+abbrev pub widthsOf : List Field → List ℕ
+widthsOf fs = map (λ (f : Field). f .width) fs
+
+length-field : (f : Field) → length (fieldBytes f) ≡ cond (differs f) (f .width) 0
+length-field f =
+    branch (λ (l : List ℕ). length l ≡ cond (differs f) (f .width) 0) (differs f) (λ e. rw e (length-bytes (f .width) (f .value))) (λ e. rw e)
+
+pub length-fields : (fs : List Field) → length (fieldsBytes fs) ≡ extent (widthsOf fs) (bitMap fs)
+unfolding fieldsBytes bitMap
+length-fields [] = refl
+length-fields (f ∷ fs) =
+    rw (length-append (fieldBytes f) (fieldsBytes fs), odd-bit (differs f) (bitMap fs), half-bit (differs f) (bitMap fs), length-field f, length-fields fs)
+
+-- a number, or 0 in its place
+chosen-most : (t : Bool) (w : ℕ) → cond t w 0 ≤ w
+chosen-most t w = branch (λ (v : ℕ). v ≤ w) t (λ e. omega arith) (λ e. omega arith)
+
+-- a bit map has a bit a field
+pub bitMap-below : (fs : List Field) → bitMap fs < 2 ^ length fs
+unfolding bitMap
+bitMap-below [] = omega arith
+bitMap-below (f ∷ fs) = omega (arith, pow-suc 2 (length fs), chosen-most (differs f) 1, bitMap-below fs)
+
+abbrev sum : List ℕ → ℕ
+sum [] = 0
+sum (w ∷ ws) = w + sum ws
+
+extent-most : (ws : List ℕ) (b : ℕ) → extent ws b ≤ sum ws
+extent-most [] b = omega arith
+extent-most (w ∷ ws) b = omega (arith, chosen-most (odd b) w, extent-most ws (b / 2))
+
+-- ---- the length of a record
+
+pub recordLength-most : (b : ℕ) → recordLength b ≤ 9
+unfolding recordLength
+recordLength-most b = branch (λ (v : ℕ). v ≤ 9) (reserved b) (λ e. omega arith) (λ e. omega (arith, extent-most widths b))
+
+-- no bit map that is written has a reserved bit
+pub map-unreserved : (p l : Link) → reserved (bitMap (fieldsOf p l)) ≡ false
+map-unreserved p l = lt-leb 16 _ (bitMap-below (fieldsOf p l))
+
+pub length-record : (p l : Link) → length (recordOf p l) ≡ recordLength (bitMap (fieldsOf p l))
+unfolding recordOf recordLength
+length-record p l = rw (map-unreserved p l, length-fields (fieldsOf p l)) (omega arith)
+
+-- ---- writing and reading
+
+-- past the last field
+abbrev pub noField : Field
+noField = field 0 0 0
+
+-- each field's value is what reading finds: its bytes in s, the first field's at `at`, where its bit stands in b, else its absent value
+abbrev pub AsRead : List ℕ → ℕ → ℕ → List Field → Type 0
+AsRead s at b fs = (i : ℕ) → i < length fs
+    → cond (stands b i) (number (getD (widthsOf fs) i 0) s (at + extent (take i (widthsOf fs)) b)) (getD fs i noField .absent) ≡ getD fs i noField .value
+
+-- each value fits its bytes
+abbrev pub Fits : List Field → Type 0
+Fits fs = (i : ℕ) → i < length fs → getD fs i noField .value < 256 ^ getD fs i noField .width
+
+-- one field that was written is read
+field-written : (f : Field) (s : List ℕ) (at : ℕ) (rest : List ℕ) → drop at s ≡ fieldBytes f ++ rest → f .value < 256 ^ f .width
+    → cond (differs f) (number (f .width) s at) (f .absent) ≡ f .value
+field-written f s at rest = go (eqb (f .value) (f .absent)) refl
+  where
+    go : (t : Bool) → eqb (f .value) (f .absent) ≡ t → drop at s ≡ cond (not t) (bytes (f .width) (f .value)) [] ++ rest → f .value < 256 ^ f .width
+        → cond (not t) (number (f .width) s at) (f .absent) ≡ f .value
+    go true e d h = sym (eqb-true (f .value) (f .absent) e)
+    go false e d h = number-bytes (f .width) (f .value) s at rest d h
+
+-- fields that were written are read
+pub fields-written : (fs : List Field) (s : List ℕ) (at : ℕ) (rest : List ℕ) → drop at s ≡ fieldsBytes fs ++ rest → Fits fs → AsRead s at (bitMap fs) fs
+unfolding fieldsBytes bitMap
+fields-written [] s at rest d h i l = absurd (omega arith)
+fields-written (f ∷ fs) s at rest d h zero l =
+    rw (odd-bit (differs f) (bitMap fs), add-zero at)
+    (field-written f s at (fieldsBytes fs ++ rest) (d ∙ append-assoc (fieldBytes f) (fieldsBytes fs) rest) (h 0 l))
+fields-written (f ∷ fs) s at rest d h (suc i) l =
+    let next : drop (at + length (fieldBytes f)) s ≡ fieldsBytes fs ++ rest
+    = sym (drop-drop (length (fieldBytes f)) at s)
+    ∙ (ap (drop (length (fieldBytes f))) (d ∙ append-assoc (fieldBytes f) (fieldsBytes fs) rest) ∙ drop-append-seam (fieldBytes f) (fieldsBytes fs ++ rest)) in
+    rw (odd-bit (differs f) (bitMap fs), half-bit (differs f) (bitMap fs), ← add-assoc, ← length-field f)
+    (fields-written fs s (at + length (fieldBytes f)) rest next (λ j m. h (suc j) (omega arith)) i (omega arith))
+
+-- and none of them is needless
+pub none-needless : (fs : List Field) → needless (bitMap fs) fs ≡ false
+unfolding bitMap
+none-needless [] = refl
+none-needless (f ∷ fs) = rw (odd-bit (differs f) (bitMap fs), half-bit (differs f) (bitMap fs), none-needless fs) (off (differs f))
+  where
+    off : (t : Bool) → ((t && not t) || false) ≡ false
+    off true = refl
+    off false = refl
+
+-- one field that was read is written
+field-read : (f : Field) (s : List ℕ) (at : ℕ) (t : Bool) → AreBytes s → at + cond t (f .width) 0 ≤ length s → (t && not (differs f)) ≡ false
+    → cond t (number (f .width) s at) (f .absent) ≡ f .value
+    → (differs f ≡ t) × (fieldBytes f ≡ take (cond t (f .width) 0) (drop at s))
+field-read f s at true small h n e =
+    let d : differs f ≡ true = not-false (differs f) n in
+    (d, rw (d, ← e) (bytes-number (f .width) s at small h))
+field-read f s at false small h n e =
+    let d : differs f ≡ false = ap not (eq-eqb (f .value) (f .absent) (sym e)) in
+    (d, rw d)
+
+-- fields that were read are written
+pub fields-read : (fs : List Field) (s : List ℕ) (at b : ℕ) → AreBytes s → b < 2 ^ length fs → at + extent (widthsOf fs) b ≤ length s
+    → needless b fs ≡ false → AsRead s at b fs → (bitMap fs ≡ b) × (fieldsBytes fs ≡ take (extent (widthsOf fs) b) (drop at s))
+unfolding fieldsBytes bitMap
+fields-read [] s at b small m h n r = (omega arith, refl)
+fields-read (f ∷ fs) s at b small m h n r =
+    let w = cond (odd b) (f .width) 0 in
+    let (n0, n1) = or-false (odd b && not (differs f)) (needless (b / 2) fs) n in
+    let (d, x) = field-read f s at (odd b) small (omega arith) n0 (rw (add-zero at) at (r 0 (omega arith))) in
+    let (e, y) = fields-read fs s (at + w) (b / 2) small (omega (arith, pow-suc 2 (length fs))) (omega arith) n1 (λ i l. rw add-assoc (r (suc i) (omega arith))) in
+    (rw (d, e) (bit-half b), rw (x, y, take-add, drop-drop))

@@ -1,0 +1,62 @@
+-- A bit map has a needless bit just where the fields would be written with another one, if each field without its bit has its absent
+-- value. So a reader may compare bit maps. Assumes nothing.
+use Prim.Native.Nat.{ℕ, suc, _+_, _*_, _/_, _%_, _^_, _<_}
+use mathlib.Core.Path.{_≡_, refl, sym, ap, _∙_}
+use mathlib.Core.Bool.{Bool, true, false, not, _&&_, _||_, Bool·not-not}
+use mathlib.Core.List.{List, [], _∷_}
+use native.Mathlib.Nat.{pow-suc}
+use native.Mathlib.Decide.{ℕ-discrete}
+use native.Mathlib.Omega.{arith}
+use lib.Dec.{eqb}
+use lib.ListN.{length, getD}
+use borrow.Author.Tests.{eqb-true, eqb-false, eq-eqb, ne-eqb, leb-false}
+use Rattle.scan.specs.Test.{clash}
+use Rattle.scan.specs.Total.{bit}
+use Rattle.mesh.specs.declared.Link.{Link}
+use Rattle.codec.specs.Field.{Field, differs, bitMap, odd, stands, needless}
+use Rattle.codec.specs.Record.{field, fieldsOf, reserved, fieldAt, linkOf}
+
+-- each field whose bit does not stand in b has its absent value
+abbrev pub AbsentElsewhere : ℕ → List Field → Type 0
+AbsentElsewhere b [] = Unit {0}
+AbsentElsewhere b (f ∷ fs) = (odd b ≡ false → differs f ≡ false) × AbsentElsewhere (b / 2) fs
+
+-- two tests of equality that say the same
+same-eqb : (a b c d : ℕ) → (a ≡ b → c ≡ d) → (c ≡ d → a ≡ b) → eqb a b ≡ eqb c d
+same-eqb a b c d f g =
+    elim (ℕ-discrete a b) [ yes q ↦ eq-eqb a b q ∙ sym (eq-eqb c d (f q)) | no q ↦ ne-eqb a b q ∙ sym (ne-eqb c d (λ e. q (g e))) ]
+
+-- one field in front: o says whether its bit stands, t whether it differs from its absent value
+needless-step : (b m : ℕ) (o t : Bool) → odd b ≡ o → (o ≡ false → t ≡ false)
+    → ((o && not t) || not (eqb m (b / 2))) ≡ not (eqb (bit t + 2 * m) b)
+needless-step b m true true e h =
+    let one : b % 2 ≡ 1 = eqb-true _ _ e in
+    ap not (same-eqb m (b / 2) (1 + 2 * m) b (λ q. omega arith) (λ q. omega arith))
+needless-step b m true false e h =
+    let one : b % 2 ≡ 1 = eqb-true _ _ e in
+    sym (ap not (ne-eqb (0 + 2 * m) b (λ q. omega arith)))
+needless-step b m false true e h = clash refl (h refl)
+needless-step b m false false e h =
+    let none : b % 2 ≡ 1 → ⊥ = eqb-false _ _ e in
+    ap not (same-eqb m (b / 2) (0 + 2 * m) b (λ q. omega arith) (λ q. omega arith))
+
+pub needless-bitMap : (b : ℕ) (fs : List Field) → b < 2 ^ length fs → AbsentElsewhere b fs → needless b fs ≡ not (eqb (bitMap fs) b)
+unfolding bitMap
+needless-bitMap b [] h a = sym (ap not (eq-eqb 0 b (omega arith)))
+needless-bitMap b (f ∷ fs) h (first, rest) =
+    let k : 2 ^ suc (length fs) ≡ 2 ^ length fs * 2 = pow-suc 2 (length fs) in
+    rw (needless-bitMap (b / 2) fs (omega arith) rest) (needless-step b (bitMap fs) (odd b) (differs f) refl first)
+
+-- in a record that is read a field without its bit has its absent value
+absent-field : (s : List ℕ) (w i a : ℕ) → stands (getD s 0 0) i ≡ false → differs (field w (fieldAt s i a) a) ≡ false
+absent-field s w i a e = ap not (eq-eqb (fieldAt s i a) a (rw e))
+
+absent-elsewhere : (p : Link) (s : List ℕ) → AbsentElsewhere (getD s 0 0) (fieldsOf p (linkOf p s))
+unfolding linkOf
+absent-elsewhere p s = (absent-field s 1 0 _, (absent-field s 1 1 _, (absent-field s 2 2 _, (absent-field s 4 3 _, record {}))))
+
+-- so refusal 9 is a test of bit maps
+pub record-needed : (p : Link) (s : List ℕ) → reserved (getD s 0 0) ≡ false
+    → not (needless (getD s 0 0) (fieldsOf p (linkOf p s))) ≡ eqb (bitMap (fieldsOf p (linkOf p s))) (getD s 0 0)
+record-needed p s e =
+    ap not (needless-bitMap (getD s 0 0) (fieldsOf p (linkOf p s)) (leb-false 16 (getD s 0 0) e) (absent-elsewhere p s)) ∙ Bool·not-not _

@@ -1,0 +1,192 @@
+-- What was read is written: a record, the records of a book, and the whole book, which is therefore the only one of its mesh. What is read passes the
+-- checks of a mesh and its fields are in range. Assumes nothing.
+use Prim.Native.Nat.{ℕ, zero, suc, _+_, _-_, _^_, _≤_, _<_}
+use mathlib.Core.Path.{_≡_, refl, sym, _∙_, ap}
+use mathlib.Core.Logic.{_↔_}
+use mathlib.Core.List.{List, _∷_, _++_}
+use native.Mathlib.Nat.{one-le-pow}
+use native.Mathlib.Omega.{arith}
+use borrow.Author.Tests.{leb-true, leb-false, le-leb, eqb-true}
+use lib.Dec.{eqb}
+use lib.ListN.{length, getD, take, drop, replicate, length-append, length-replicate, take-append-drop}
+use lib.Seq.{drop-drop, drop-cons, take-add, take-suc, take-all, take-at, drop-at}
+use Rattle.scan.specs.Bytes.{bytes, number, AreBytes, number-below, bytes-number, bytes-drop}
+use Rattle.scan.specs.Entry.{replicate-at}
+use Rattle.scan.specs.Test.{branch, le-says, and-says}
+use Rattle.mesh.specs.declared.Link.{Link}
+use Rattle.mesh.specs.declared.Mesh.{Mesh}
+use Rattle.mesh.specs.declared.Answer.the-variants.{Accepted}
+use Rattle.mesh.specs.Mesh.{zeroLink, linksAnswer, meshAnswer}
+use Rattle.mesh.specs.WellFormed.{LinkInRange, InRange}
+use Rattle.mesh.specs.Laws.Answer.{must-accepted}
+use Rattle.codec.specs.declared.Decoded.{Decoded}
+use Rattle.codec.specs.Field.{stands, extent}
+use Rattle.codec.specs.Record.{widths, fieldsOf, fieldAt, recordOf, recordLength, linkOf}
+use Rattle.codec.specs.Book.{version, recordsOf, bookOf, encodeAnswer, encoded, outputAfter, recordsAnswer, linksOf, bookAnswer, meshOf, decoded}
+use Rattle.codec.specs.Laws.Accepted.{GoodRecord, GoodHeader, records-accepted, book-accepted, decoded-mesh}
+use Rattle.mesh.specs.Laws.GoodMesh.{link-anywhere, ends-below, all-zero, GoodMesh, accepted-mesh}
+use Rattle.codec.specs.Laws.Fields.{AsRead, fields-read}
+use Rattle.codec.specs.Laws.Written.{decoded-book, book-most}
+
+-- ---- one record
+
+-- each field of the link that is read is what reading finds
+as-read : (p : Link) (s : List ℕ) → AsRead s 1 (getD s 0 0) (fieldsOf p (linkOf p s))
+unfolding linkOf
+as-read p s zero h = refl
+as-read p s (suc zero) h = refl
+as-read p s (suc (suc zero)) h = refl
+as-read p s (suc (suc (suc zero))) h = refl
+as-read p s (suc (suc (suc (suc i)))) h = absurd (omega arith)
+
+-- a field that is 0 where it is absent fits its bytes
+field-below : (s : List ℕ) → AreBytes s → (i : ℕ) → fieldAt s i 0 < 256 ^ getD widths i 0
+field-below s small i =
+    let w = getD widths i 0 in
+    branch (λ (v : ℕ). v < 256 ^ w) (stands (getD s 0 0) i)
+    (λ e. number-below w s (1 + extent (take i widths) (getD s 0 0)) small)
+    (λ e. one-le-pow w 256 (omega arith))
+
+module _ (n : ℕ) (p : Link) (at : ℕ) (s : List ℕ) (small : AreBytes s) (g : GoodRecord n p at s) where
+  -- the record is that of the link that is read
+  pub record-read : recordOf p (linkOf p s) ≡ take (recordLength (getD s 0 0)) s
+  unfolding recordOf recordLength
+  record-read =
+      let b = getD s 0 0 in
+      let size : recordLength b ≡ 1 + extent widths b = rw (g .unreserved) in
+      let (x, y) = fields-read (fieldsOf p (linkOf p s)) s 1 b small (leb-false 16 b (g .unreserved)) (omega (arith, g .whole)) (g .needed) (as-read p s) in
+      rw (size, x, y, take-add 1 (extent widths b) s, take-suc s 0 0 (g .some))
+
+  -- the ends are nodes, and there are at most 64
+  link-in-range : n ≤ 64 → LinkInRange (linkOf p s)
+  unfolding linkOf
+  link-in-range h =
+      let (low, high) = ends-below n p (linkOf p s) at (g .fits) in
+      record { low = omega arith; high = omega arith; length = field-below s small 2; pair = field-below s small 3 }
+
+-- ---- the records of a book
+
+pub length-links : (p : Link) (k : ℕ) (s : List ℕ) → length (linksOf p k s) ≡ k
+unfolding linksOf
+length-links p zero s = refl
+length-links p (suc k) s = ap suc (length-links (linkOf p s) k (drop (recordLength (getD s 0 0)) s))
+
+-- records that are read are those of the links that are read
+pub links-read : (n end : ℕ) (p : Link) (at k : ℕ) (s : List ℕ) → AreBytes s → recordsAnswer n end p at k s ≡ Accepted → recordsOf p (linksOf p k s) ≡ s
+unfolding recordsOf recordsAnswer linksOf
+links-read n end p at zero s small e =
+    let (t, f) = must-accepted (eqb (length s) 0) _ _ _ e in
+    take-all 0 s (omega (arith, eqb-true (length s) 0 t))
+links-read n end p at (suc k) s small e =
+    let (g, f) = records-accepted n end p at k s e in
+    let b = recordLength (getD s 0 0) in
+    rw (record-read n p at s small g, links-read n end (linkOf p s) (at + b) k (drop b s) (bytes-drop s b small) f) (take-append-drop b s)
+
+-- and those links are accepted
+pub links-accepted : (n end : ℕ) (p : Link) (at i k : ℕ) (s : List ℕ) → recordsAnswer n end p at k s ≡ Accepted → linksAnswer n p i (linksOf p k s) ≡ Accepted
+unfolding linksAnswer linksOf
+links-accepted n end p at i zero s e = refl
+links-accepted n end p at i (suc k) s e =
+    let (g, f) = records-accepted n end p at k s e in
+    let b = recordLength (getD s 0 0) in
+    rw (link-anywhere n p (linkOf p s) at (g .fits) i) (links-accepted n end (linkOf p s) (at + b) (i + 1) k (drop b s) f)
+
+-- every entry of the mesh that is read is in range
+entries-in-range : (n end : ℕ) (p : Link) (at k : ℕ) (s : List ℕ) → AreBytes s → n ≤ 64 → recordsAnswer n end p at k s ≡ Accepted
+    → (rest i : ℕ) → LinkInRange (getD (linksOf p k s ++ replicate rest zeroLink) i zeroLink)
+unfolding linksOf
+entries-in-range n end p at zero s small h e rest i =
+    rw (replicate-at rest zeroLink i) (record { low = omega arith; high = omega arith; length = omega arith; pair = omega arith })
+entries-in-range n end p at (suc k) s small h e rest zero = link-in-range n p at s small (records-accepted n end p at k s e .0) h
+entries-in-range n end p at (suc k) s small h e rest (suc i) =
+    let b = recordLength (getD s 0 0) in
+    entries-in-range n end (linkOf p s) (at + b) k (drop b s) (bytes-drop s b small) h (records-accepted n end p at k s e .1) rest i
+
+-- ---- the whole book
+
+-- the header and what follows it
+header-read : (s : List ℕ) → AreBytes s → GoodHeader s → version ∷ (getD s 1 0 ∷ (bytes 2 (number 2 s 2) ++ drop 4 s)) ≡ s
+header-read s small g =
+    let four = g .four in
+    let v : getD s 0 0 ≡ version = eqb-true (getD s 0 0) version (g .version) in
+    sym (drop-cons s 0 0 (omega arith)
+    ∙ rw (v, drop-cons s 1 0 (omega arith), ← take-append-drop 2 (drop 2 s), drop-drop 2 2 s, ← bytes-number 2 s 2 small four))
+
+module _ (s : List ℕ) (e : bookAnswer s ≡ Accepted) where
+  abbrev k : ℕ
+  k = number 2 s 2
+
+  abbrev links : List Link
+  links = linksOf zeroLink k (drop 4 s)
+
+  header : GoodHeader s
+  header = book-accepted s e .0
+
+  records : recordsAnswer (getD s 1 0) (length s) zeroLink 4 k (drop 4 s) ≡ Accepted
+  records = book-accepted s e .1
+
+  count-most : k ≤ 256
+  count-most = leb-true k 256 (header .count)
+
+  nodes-most : getD s 1 0 ≤ 64
+  nodes-most = and-says (le-says 2 (getD s 1 0)) (le-says (getD s 1 0) 64) .0 (header .nodes) .1
+
+  first-links : take k (links ++ replicate (256 - k) zeroLink) ≡ links
+  first-links = take-at links (replicate (256 - k) zeroLink) k (length-links zeroLink k (drop 4 s))
+
+  mesh-good : GoodMesh (meshOf s)
+  unfolding meshOf
+  mesh-good = record {
+    nodes = header .nodes;
+    count = header .count;
+    links = rw first-links (links-accepted (getD s 1 0) (length s) zeroLink 4 0 k (drop 4 s) records);
+    zeros = rw (drop-at links (replicate (256 - k) zeroLink) k (length-links zeroLink k (drop 4 s))) (all-zero (256 - k));
+  }
+
+  book-again : AreBytes s → bookOf (meshOf s) ≡ s
+  unfolding bookOf meshOf
+  book-again small =
+      rw (first-links, links-read (getD s 1 0) (length s) zeroLink 4 k (drop 4 s) (bytes-drop s 4 small) records) (header-read s small header)
+
+  mesh-in-range : AreBytes s → InRange (meshOf s)
+  unfolding meshOf
+  mesh-in-range small = record {
+    entries =
+        rw (length-append links (replicate (256 - k) zeroLink), length-links zeroLink k (drop 4 s), length-replicate (256 - k) zeroLink)
+        (omega (arith, count-most));
+    links = entries-in-range (getD s 1 0) (length s) zeroLink 4 k (drop 4 s) (bytes-drop s 4 small) nodes-most records (256 - k);
+  }
+
+-- ---- what `decoded` gives
+
+-- what is read passes the checks
+pub decoded-accepted : (s : List ℕ) → decoded s .answer ≡ Accepted → meshAnswer (decoded s .mesh) ≡ Accepted
+decoded-accepted s e = rw (decoded-mesh s e .1) (accepted-mesh (meshOf s) (mesh-good s (decoded-mesh s e .0)))
+
+pub decoded-in-range : (s : List ℕ) → AreBytes s → decoded s .answer ≡ Accepted → InRange (decoded s .mesh)
+decoded-in-range s small e = rw (decoded-mesh s e .1) (mesh-in-range s (decoded-mesh s e .0) small)
+
+-- a book that is read is the book of what it is read as
+pub book-decoded : (s : List ℕ) → AreBytes s → decoded s .answer ≡ Accepted → bookOf (decoded s .mesh) ≡ s
+book-decoded s small e = rw (decoded-mesh s e .1) (book-again s (decoded-mesh s e .0) small)
+
+-- each mesh has one book
+pub one-book : (m : Mesh) → InRange m → meshAnswer m ≡ Accepted → (s : List ℕ) → AreBytes s
+    → (decoded s ≡ record { mesh = m; answer = Accepted }) ↔ (s ≡ bookOf m)
+one-book m r e s small = (
+  λ d. sym (book-decoded s small (ap (λ (x : Decoded). x .answer) d)) ∙ ap (λ (x : Decoded). bookOf (x .mesh)) d,
+  λ q. rw q (decoded-book m r e),
+)
+
+pub accepted-most : (s : List ℕ) → AreBytes s → decoded s .answer ≡ Accepted → length s ≤ 2308
+accepted-most s small e = rw (book-decoded s small e) at (book-most (decoded s .mesh) (decoded-accepted s e))
+
+-- the book comes back at the front of the output
+pub output-decoded : (s out : List ℕ) → AreBytes s → decoded s .answer ≡ Accepted → length s ≤ length out
+    → (encoded (decoded s .mesh) (length out) ≡ record { length = length s; answer = Accepted })
+    × (outputAfter (decoded s .mesh) out ≡ s ++ drop (length s) out)
+unfolding encoded outputAfter encodeAnswer
+output-decoded s out small e h =
+    let checked = decoded-accepted s e in
+    let book = book-decoded s small e in
+    (rw (checked, book, le-leb (length s) (length out) h), rw (checked, book, le-leb (length s) (length out) h))

@@ -1,0 +1,109 @@
+-- Laws of writing: one turn and the end of each of the writer's loops, and the three ways out of `encode`. Assumes nothing.
+use Prim.Native.Nat.{ℕ, _+_, _-_, _≤_, _<_}
+use mathlib.Core.Path.{_≡_, refl, sym, _∙_, ap}
+use mathlib.Core.List.{List, [], _∷_, _++_}
+use native.Mathlib.Omega.{arith}
+use borrow.Author.Tests.{le-leb, lt-leb}
+use lib.ListN.{length, getD, take, drop, set, length-append}
+use lib.Seq.{sets}
+use Rattle.scan.specs.Part.{drop-take, drop-take-end}
+use Rattle.scan.specs.Store.{sets-front, sets-lent}
+use Rattle.mesh.specs.declared.Link.{Link}
+use Rattle.mesh.specs.declared.Mesh.{Mesh}
+use Rattle.mesh.specs.declared.Answer.{Answer}
+use Rattle.mesh.specs.declared.Answer.the-variants.{Accepted, Refused}
+use Rattle.mesh.specs.Mesh.{zeroLink, meshAnswer}
+use Rattle.codec.specs.declared.Encoded.{Encoded}
+use Rattle.codec.specs.Field.{Field, fieldBytes, fieldsBytes, bitMap}
+use Rattle.codec.specs.Record.{fieldsOf, recordOf}
+use Rattle.codec.specs.Book.{recordsOf, bookOf, encodeAnswer, encoded, outputAfter}
+use Rattle.scan.specs.Storing.{Storing, storing-all, storing-room, storing-next}
+
+-- ---- the fields of a record
+
+-- a record has its bit map at least
+pub record-some : (p l : Link) → 0 < length (recordOf p l)
+unfolding recordOf
+record-some p l = omega arith
+
+-- the bit map b is stored, and the fields are left; the link h is l
+pub record-start : (out : List ℕ) (p : Link) {l h : Link} → h ≡ l → {b : ℕ} → b ≡ bitMap (fieldsOf p h) → length (recordOf p l) ≤ length out
+    → Storing out 0 (recordOf p l) (set out 0 b) 1 (fieldsBytes (fieldsOf p h))
+unfolding recordOf
+record-start out p {l} {h} e {b} q n =
+    rw (← e, q) (storing-next (storing-all out 0 (recordOf p h) (rw e (omega arith))) (bitMap (fieldsOf p h) ∷ []) (fieldsBytes (fieldsOf p h)) refl refl refl)
+
+-- one field is stored
+module _ (f : Field) (fs : List Field) {out₀ all out : List ℕ} {start at : ℕ} (S : Storing out₀ start all out at (fieldsBytes (f ∷ fs))) where
+  pub field-room : at + length (fieldBytes f) ≤ length out
+  unfolding fieldsBytes
+  field-room = storing-room S (fieldBytes f) (fieldsBytes fs) refl
+
+  pub field-next : {out′ : List ℕ} {at′ : ℕ} → out′ ≡ sets out at (fieldBytes f) → at′ ≡ at + length (fieldBytes f)
+      → Storing out₀ start all out′ at′ (fieldsBytes fs)
+  unfolding fieldsBytes
+  field-next o a = storing-next S (fieldBytes f) (fieldsBytes fs) refl o a
+
+-- ---- the records of a mesh
+
+module _ (p : Link) (links : List Link) (k i : ℕ) where
+  pub records-next : i < k → k ≤ length links
+      → recordsOf p (drop i (take k links)) ≡ recordOf p (getD links i zeroLink) ++ recordsOf (getD links i zeroLink) (drop (i + 1) (take k links))
+  unfolding recordsOf
+  records-next h hk = rw (drop-take zeroLink links k i h hk)
+
+  pub records-end : k ≤ i → recordsOf p (drop i (take k links)) ≡ []
+  unfolding recordsOf
+  records-end h = rw (drop-take-end links k i h)
+
+  pub length-records-next : i < k → k ≤ length links
+      → length (recordsOf p (drop i (take k links)))
+      ≡ length (recordOf p (getD links i zeroLink)) + length (recordsOf (getD links i zeroLink) (drop (i + 1) (take k links)))
+  length-records-next h hk = ap length (records-next h hk) ∙ length-append (recordOf p (getD links i zeroLink)) _
+
+-- one record is stored, at the front of the lent tail &mut out[at..]
+module _ (p : Link) (links : List Link) (k i : ℕ) (h : i < k) (hk : k ≤ length links) {out₀ all out : List ℕ} {start at : ℕ}
+    (S : Storing out₀ start all out at (recordsOf p (drop i (take k links)))) where
+  pub record-room : at + length (recordOf p (getD links i zeroLink)) ≤ length out
+  record-room = storing-room S (recordOf p (getD links i zeroLink)) _ (records-next p links k i h hk)
+
+  pub record-next : {tail : List ℕ} {n : ℕ} → tail ≡ sets (take (length out - at) (drop at out)) 0 (recordOf p (getD links i zeroLink))
+      → n ≡ length (recordOf p (getD links i zeroLink))
+      → Storing out₀ start all (take at out ++ (tail ++ drop (length out - at) (drop at out))) (at + n)
+      (recordsOf (getD links i zeroLink) (drop (i + 1) (take k links)))
+  record-next t n =
+      let l = getD links i zeroLink in
+      storing-next S (recordOf p l) _ (records-next p links k i h hk) (rw t (sets-lent out at (recordOf p l) record-room)) (rw n)
+
+-- the header takes four bytes
+pub length-book : (m : Mesh) → length (bookOf m) ≡ 4 + length (recordsOf zeroLink (take (m .count) (m .links)))
+unfolding bookOf
+length-book m = omega arith
+
+-- ---- the three ways out of `encode`
+
+-- the result r and the output `after` are what writing m to `out` gives
+abbrev pub Encodes : Mesh → List ℕ → Encoded → List ℕ → Type 0
+Encodes m out r after = (r ≡ encoded m (length out)) × (after ≡ outputAfter m out)
+
+module _ (m : Mesh) (out : List ℕ) where
+  -- the mesh is refused
+  pub encode-refused : (a : Answer) {number place : ℕ} → a ≡ meshAnswer m → a ≡ Refused number place
+      → Encodes m out (record { length = 0; answer = a }) out
+  unfolding encoded outputAfter encodeAnswer
+  encode-refused a {number} {place} e r = let h : meshAnswer m ≡ Refused number place = sym e ∙ r in (rw (h, r), rw h)
+
+  -- the output is short
+  pub encode-short : (n : ℕ) → meshAnswer m ≡ Accepted → n ≡ length (bookOf m) → length out < n
+      → Encodes m out (record { length = 0; answer = Refused 11 n }) out
+  unfolding encoded outputAfter encodeAnswer
+  encode-short n h e l = (rw (h, ← e, lt-leb _ _ l), rw (h, ← e, lt-leb _ _ l))
+
+  -- the book is written
+  pub encode-done : (n : ℕ) → meshAnswer m ≡ Accepted → n ≡ length (bookOf m) → n ≤ length out
+      → {after : List ℕ} → after ≡ sets out 0 (bookOf m)
+      → Encodes m out (record { length = n; answer = Accepted }) after
+  unfolding encoded outputAfter encodeAnswer
+  encode-done n h e l q =
+      let fits : length (bookOf m) ≤ length out = omega arith in
+      (rw (h, e, le-leb _ _ fits), q ∙ (sets-front (bookOf m) out fits ∙ rw (h, le-leb _ _ fits)))

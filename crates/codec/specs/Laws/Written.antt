@@ -1,0 +1,148 @@
+-- What was written is read: a record, the records of links that pass the checks, and the book of a mesh that passes them. Assumes nothing.
+use Prim.Native.Nat.{ℕ, zero, suc, _+_, _-_, _*_, _≤_, _<_}
+use mathlib.Core.Path.{_≡_, refl, sym, _∙_, ap}
+use mathlib.Core.List.{List, [], _∷_, _++_}
+use native.Mathlib.Omega.{arith}
+use borrow.Author.Tests.{leb-true, lt-ltb, le-leb}
+use lib.ListN.{length, getD, take, drop, replicate, length-append, length-take, length-drop, take-append-drop}
+use lib.Seq.{length-take-le, take-append-seam, drop-at}
+use Rattle.scan.specs.Part.{each-taken}
+use Rattle.scan.specs.Bytes.{number, number-bytes}
+use Rattle.mesh.specs.declared.Link.{Link}
+use Rattle.mesh.specs.declared.Mesh.{Mesh}
+use Rattle.mesh.specs.declared.Answer.{Answer}
+use Rattle.mesh.specs.declared.Answer.the-variants.{Accepted, Refused}
+use Rattle.mesh.specs.Mesh.{zeroLink, linkAnswer, linksAnswer, meshAnswer}
+use Rattle.mesh.specs.WellFormed.{LinkInRange, InRange}
+use Rattle.mesh.specs.Laws.Answer.{andThen-accepted}
+use Rattle.mesh.specs.Laws.Checked.{passes}
+use Rattle.codec.specs.Field.{bitMap}
+use Rattle.codec.specs.Record.{fieldsOf, fieldAt, recordOf, recordLength, linkOf, recordAnswer}
+use Rattle.codec.specs.Book.{recordsOf, bookOf, encodeAnswer, encodedAs, encoded, outputAfter}
+use Rattle.codec.specs.Book.{recordsAnswer, linksOf, headerAnswer, bookAnswer, meshOf, decoded}
+use Rattle.mesh.specs.Laws.GoodMesh.{link-anywhere, zero-links, GoodMesh, mesh-accepted}
+use Rattle.codec.specs.Laws.Fields.{Fits, AsRead, fields-written, none-needless, recordLength-most, map-unreserved, length-record}
+
+-- ---- one record
+
+-- the fields of a link in range fit their bytes
+fields-fit : (p l : Link) → LinkInRange l → Fits (fieldsOf p l)
+fields-fit p l r zero h = r .low
+fields-fit p l r (suc zero) h = r .high
+fields-fit p l r (suc (suc zero)) h = r .length
+fields-fit p l r (suc (suc (suc zero))) h = r .pair
+fields-fit p l r (suc (suc (suc (suc i)))) h = absurd (omega arith)
+
+module _ (p l : Link) (rest : List ℕ) where
+  as-read : LinkInRange l → AsRead (recordOf p l ++ rest) 1 (bitMap (fieldsOf p l)) (fieldsOf p l)
+  unfolding recordOf
+  as-read r = fields-written (fieldsOf p l) (recordOf p l ++ rest) 1 rest refl (fields-fit p l r)
+
+  -- the link is read
+  pub link-written : LinkInRange l → linkOf p (recordOf p l ++ rest) ≡ l
+  unfolding recordOf linkOf
+  link-written r =
+      let s = recordOf p l ++ rest in
+      let low : fieldAt s 0 (p .low) ≡ l .low = as-read r 0 (omega arith) in
+      λ j. record {
+        low = low j;
+        high = (ap (λ (x : ℕ). fieldAt s 1 (x + 1)) low ∙ as-read r 1 (omega arith)) j;
+        length = as-read r 2 (omega arith) j;
+        pair = as-read r 3 (omega arith) j;
+      }
+
+  -- the only refusals that such a record can meet are the link's own
+  pub record-written : (n end at : ℕ) → LinkInRange l → recordAnswer n end p at (recordOf p l ++ rest) ≡ linkAnswer n p l at
+  unfolding recordOf recordAnswer
+  record-written n end at r =
+      let s = recordOf p l ++ rest in
+      let b = recordLength (bitMap (fieldsOf p l)) in
+      let whole : length s ≡ b + length rest = length-append (recordOf p l) rest ∙ ap (λ (k : ℕ). k + length rest) (length-record p l) in
+      rw (lt-ltb 0 (length s) (omega arith), map-unreserved p l, le-leb b (length s) (omega arith), link-written r, none-needless (fieldsOf p l))
+
+-- ---- the records of a list of links
+
+-- the links of a list are in range
+abbrev EachInRange : List Link → Type 0
+EachInRange ls = (i : ℕ) → LinkInRange (getD ls i zeroLink)
+
+-- records of accepted links are accepted, and those links are read
+pub records-written : (n end : ℕ) (p : Link) (at i : ℕ) (ls : List Link) → linksAnswer n p i ls ≡ Accepted → EachInRange ls
+    → (recordsAnswer n end p at (length ls) (recordsOf p ls) ≡ Accepted) × (linksOf p (length ls) (recordsOf p ls) ≡ ls)
+unfolding linksAnswer recordOf recordsAnswer recordsOf linksOf
+records-written n end p at i [] e r = (refl, refl)
+records-written n end p at i (l ∷ ls) e r =
+    let (first, others) = andThen-accepted (linkAnswer n p l i) (linksAnswer n l (i + 1) ls) e in
+    let b = recordLength (bitMap (fieldsOf p l)) in
+    let (x, y) = records-written n end l (at + b) (i + 1) ls others (λ j. r (suc j)) in
+    let past : drop b (recordOf p l ++ recordsOf l ls) ≡ recordsOf l ls = drop-at (recordOf p l) (recordsOf l ls) b (length-record p l) in
+    rw (record-written p l (recordsOf l ls) n end at (r 0), link-anywhere n p l i first at, link-written p l (recordsOf l ls) (r 0), past, y) (x, refl)
+
+-- ---- the book of a mesh
+
+module _ (m : Mesh) (r : InRange m) (g : GoodMesh m) where
+  abbrev taken : List Link
+  taken = take (m .count) (m .links)
+
+  count-most : m .count ≤ 256
+  count-most = leb-true _ _ (g .count)
+
+  count-written : number 2 (bookOf m) 2 ≡ m .count
+  unfolding bookOf
+  count-written = number-bytes 2 (m .count) (bookOf m) 2 (recordsOf zeroLink taken) refl (omega (arith, count-most))
+
+  taken-written : (recordsAnswer (m .nodes) (length (bookOf m)) zeroLink 4 (m .count) (recordsOf zeroLink taken) ≡ Accepted)
+      × (linksOf zeroLink (m .count) (recordsOf zeroLink taken) ≡ taken)
+  taken-written =
+      let e : length taken ≡ m .count = length-take-le (m .count) (m .links) (omega (arith, count-most, r .entries)) in
+      rw e at (records-written (m .nodes) (length (bookOf m)) zeroLink 4 0 taken (g .links) (each-taken LinkInRange zeroLink (m .links) (m .count) (r .links)))
+
+  book-written : bookAnswer (bookOf m) ≡ Accepted
+  unfolding bookOf headerAnswer bookAnswer
+  book-written = rw (le-leb 4 (length (bookOf m)) (omega arith), g .nodes, count-written, g .count) (taken-written .0)
+
+  mesh-written : meshOf (bookOf m) ≡ m
+  unfolding bookOf meshOf
+  mesh-written =
+      let k = m .count in
+      let left : length (drop k (m .links)) ≡ 256 - k = length-drop k (m .links) ∙ rw (r .entries) in
+      let zeros : drop k (m .links) ≡ replicate (256 - k) zeroLink = rw left at (zero-links (drop k (m .links)) (g .zeros)) in
+      let links : taken ++ replicate (256 - k) zeroLink ≡ m .links = rw (← zeros) (take-append-drop k (m .links)) in
+      rw (count-written, taken-written .1, links)
+
+-- the book of a mesh that passes the checks is read as that mesh
+pub decoded-book : (m : Mesh) → InRange m → meshAnswer m ≡ Accepted → decoded (bookOf m) ≡ record { mesh = m; answer = Accepted }
+unfolding decoded
+decoded-book m r e = let g = mesh-accepted m e in rw (book-written m r g, mesh-written m r g)
+
+pub encoded-answer : (m : Mesh) (room : ℕ) → encoded m room .answer ≡ encodeAnswer m room
+unfolding encoded
+encoded-answer m room = go (encodeAnswer m room)
+  where
+    go : (a : Answer) → encodedAs a (length (bookOf m)) .answer ≡ a
+    go Accepted = refl
+    go (Refused number place) = refl
+
+-- the bytes that writing leaves at the front of the output are read
+pub decoded-output : (m : Mesh) (out : List ℕ) → InRange m → encoded m (length out) .answer ≡ Accepted
+    → decoded (take (encoded m (length out) .length) (outputAfter m out)) ≡ record { mesh = m; answer = Accepted }
+unfolding encodeAnswer encoded outputAfter
+decoded-output m out r e =
+    let a : encodeAnswer m (length out) ≡ Accepted = sym (encoded-answer m (length out)) ∙ e in
+    let (checked, fits) = andThen-accepted (meshAnswer m) _ a in
+    rw (a, take-append-seam (bookOf m) (drop (length (bookOf m)) out)) (decoded-book m r checked)
+
+-- ---- the length of a book
+
+records-most : (p : Link) (ls : List Link) → length (recordsOf p ls) ≤ 9 * length ls
+unfolding recordsOf
+records-most p [] = omega arith
+records-most p (l ∷ ls) =
+    rw (length-append (recordOf p l) (recordsOf l ls), length-record p l) (omega (arith, recordLength-most (bitMap (fieldsOf p l)), records-most l ls))
+
+-- the book of a mesh that passes the checks has at most 2,308 bytes
+pub book-most : (m : Mesh) → meshAnswer m ≡ Accepted → length (bookOf m) ≤ 2308
+unfolding bookOf
+book-most m e =
+    let h = passes m e .count-most in
+    omega (arith, records-most zeroLink (take (m .count) (m .links)), length-take (m .count) (m .links))

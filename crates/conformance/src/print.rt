@@ -1,0 +1,50 @@
+// Words, numbers and answers on standard output.
+use libc::STDOUT_FILENO;
+use mesh::Answer;
+
+pub(crate) fn word(text: &[u8]) {
+    io::write_all(STDOUT_FILENO, text);
+}
+
+// A space and a number.
+pub(crate) fn number(n: u64) {
+    io::write_all(STDOUT_FILENO, b" ");
+    io::print_decimal(STDOUT_FILENO, n);
+}
+
+pub(crate) fn end() {
+    io::write_all(STDOUT_FILENO, b"\n");
+}
+
+// A word and a number.
+pub(crate) fn field(text: &[u8], n: u64) {
+    word(text);
+    number(n);
+}
+
+// The end of a line: an answer.
+pub(crate) fn answer(a: Answer) {
+    match a {
+        Answer::Accepted => word(b" accepted"),
+        Answer::Refused { number: n, place } => {
+            word(b" refused");
+            number(n as u64);
+            number(place as u64);
+        }
+    }
+    end();
+}
+
+// A line: a word and bytes, two digits each.
+pub(crate) fn hex(text: &[u8], bytes: &[u8]) {
+    word(text);
+    if bytes.len() != 0 {
+        word(b" ");
+    }
+    let mut i: usize = 0;
+    while i < bytes.len() {
+        io::print_hex(STDOUT_FILENO, bytes[i] as u64, 2);
+        i += 1;
+    }
+    end();
+}

@@ -1,0 +1,4 @@
+pub mod Walk
+pub mod Net
+pub mod Reach
+pub mod Plan

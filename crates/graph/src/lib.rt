@@ -1,0 +1,1 @@
+// Theory only: walks, nets, reachability and orientations.

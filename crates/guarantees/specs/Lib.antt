@@ -1,0 +1,3 @@
+pub mod Main
+pub mod Bench
+pub mod Laws

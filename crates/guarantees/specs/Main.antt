@@ -1,0 +1,68 @@
+-- The theorem page: what is claimed of the library, each theorem stated in full over the definitions that the contracts cite, and proved
+-- by citing one lemma. README.md leads from each demand to its theorem here.
+use Prim.Native.Nat.{ℕ, _≤_}
+use mathlib.Core.Path.{_≡_}
+use mathlib.Core.Logic.{_↔_}
+use mathlib.Core.List.{List, _++_, List·Memᴰ}
+use lib.ListN.{length, take, drop}
+use Rattle.scan.specs.Bytes.{AreBytes}
+use Rattle.mesh.specs.declared.Mesh.{Mesh}
+use Rattle.mesh.specs.declared.Answer.the-variants.{Accepted, Refused}
+use Rattle.mesh.specs.Mesh.{meshAnswer}
+use Rattle.mesh.specs.WellFormed.{WellFormed, InRange}
+use Rattle.mesh.specs.Refusal.{Refusal}
+use Rattle.mesh.specs.Laws.Checked.{checks}
+use Rattle.mesh.specs.Laws.Refused.{refused-only}
+use Rattle.codec.specs.Book.{bookOf, encoded, outputAfter, decoded}
+use Rattle.codec.specs.Laws.Written.{decoded-output, book-most}
+use Rattle.codec.specs.Laws.Read.{decoded-accepted, decoded-in-range, output-decoded, one-book, accepted-most}
+use Rattle.guarantees.specs.Bench.{Row, table}
+use Rattle.guarantees.specs.Laws.Computed.{row-holds}
+
+-- ---- the mesh checks (contract: crates/mesh/src/lib.rt, `check`)
+
+-- the checks accept exactly the well-formed meshes
+pub check-accepts : (m : Mesh) → InRange m → (meshAnswer m ≡ Accepted) ↔ WellFormed m
+check-accepts m r = checks m (r .entries)
+
+-- a refusal is given only on its own condition, at its own place
+pub check-refuses : (m : Mesh) (number place : ℕ) → meshAnswer m ≡ Refused number place → Refusal m number place
+check-refuses = refused-only
+
+-- ---- demand 2: reading and writing are inverse (contracts: crates/codec/src/lib.rt, `decode` and `encode`)
+
+-- decoding what was encoded gives the mesh back
+pub decode-encode : (m : Mesh) (out : List ℕ) → InRange m → encoded m (length out) .answer ≡ Accepted
+    → decoded (take (encoded m (length out) .length) (outputAfter m out)) ≡ record { mesh = m; answer = Accepted }
+decode-encode = decoded-output
+
+-- encoding what was decoded gives the book back, and leaves the bytes past it
+pub encode-decode : (s out : List ℕ) → AreBytes s → decoded s .answer ≡ Accepted → length s ≤ length out
+    → (encoded (decoded s .mesh) (length out) ≡ record { length = length s; answer = Accepted })
+    × (outputAfter (decoded s .mesh) out ≡ s ++ drop (length s) out)
+encode-decode = output-decoded
+
+-- each mesh that passes the checks has one book
+pub book-unique : (m : Mesh) → InRange m → meshAnswer m ≡ Accepted → (s : List ℕ) → AreBytes s
+    → (decoded s ≡ record { mesh = m; answer = Accepted }) ↔ (s ≡ bookOf m)
+book-unique = one-book
+
+-- what is decoded passes the checks, and its fields are in range
+pub decode-checked : (s : List ℕ) → decoded s .answer ≡ Accepted → meshAnswer (decoded s .mesh) ≡ Accepted
+decode-checked = decoded-accepted
+
+pub decode-in-range : (s : List ℕ) → AreBytes s → decoded s .answer ≡ Accepted → InRange (decoded s .mesh)
+decode-in-range = decoded-in-range
+
+-- a book has at most 2,308 bytes
+pub book-length : (m : Mesh) → meshAnswer m ≡ Accepted → length (bookOf m) ≤ 2308
+book-length = book-most
+
+pub accepted-length : (s : List ℕ) → AreBytes s → decoded s .answer ≡ Accepted → length s ≤ 2308
+accepted-length = accepted-most
+
+-- ---- 01's bench examples marked P
+
+-- every row of the table holds
+pub bench : (r : Row) → List·Memᴰ r table → decoded (r .book) ≡ r .reading
+bench = row-holds
