@@ -45,24 +45,30 @@ fn run_book(case: u64) -> bool {
     let room = two(head[0], head[1]) as usize;
     let link = two(head[2], head[3]);
     let length = two(head[4], head[5]) as usize;
-    if MOST_BYTES < length {
-        return false;
-    }
-    let mut book = [0u8; 2400];
-    if io::read_full(STDIN_FILENO, &mut book[..length]) < length {
-        return false;
-    }
     field(b"book", case);
     number(length as u64);
     end();
-    show_book(&book[..length], room, link)
+    let mut space = [0u8; MOST_BYTES];
+    read_book(&mut space, length, room, link)
+}
+
+// Reads a book into the front of `space` and shows it.
+fn read_book(space: &mut [u8], length: usize, room: usize, link: u16) -> bool {
+    if space.len() < length {
+        return false;
+    }
+    if io::read_full(STDIN_FILENO, &mut space[0..length]) < length {
+        return false;
+    }
+    show_book(&space[0..length], room, link)
 }
 
 // Decodes the book, encodes the mesh again, and shows one record.
 fn show_book(book: &[u8], room: usize, link: u16) -> bool {
     let d = codec::decode(book);
+    let a = d.answer;
     word(b"read");
-    answer(d.answer);
+    answer(a);
     let m = d.mesh;
     show_mesh(m);
     let shown = show_written(m, room);
@@ -76,20 +82,34 @@ fn show_mesh(m: Mesh) {
     field(b"mesh", m.nodes as u64);
     number(m.count as u64);
     end();
+    show_links(m);
+    field(b"rest", filled_rest(m));
+    end();
+}
+
+fn show_links(m: Mesh) {
     let count = m.count as usize;
-    let mut rest: u64 = 0;
     let mut i: usize = 0;
     while i < 256 {
-        let l = m.links[i];
         if i < count {
+            let l = m.links[i];
             show_link(i as u64, l);
-        } else {
-            rest += filled(l);
         }
         i += 1;
     }
-    field(b"rest", rest);
-    end();
+}
+
+// How many entries past the last link are not all zero.
+fn filled_rest(m: Mesh) -> u64 {
+    let count = m.count as usize;
+    let mut rest: usize = 0;
+    let mut i: usize = 0;
+    while i < 256 {
+        let l = m.links[i];
+        rest += filled(l, count <= i);
+        i += 1;
+    }
+    rest as u64
 }
 
 fn show_link(i: u64, l: Link) {
@@ -101,10 +121,13 @@ fn show_link(i: u64, l: Link) {
     end();
 }
 
-// 1 for an entry that is not all zero, else 0.
-fn filled(l: Link) -> u64
+// 1 for an entry past the last link that is not all zero, else 0.
+fn filled(l: Link, past: bool) -> usize
     ensures { λ r. ⌜ r ≤ 1 ⌝ }
 {
+    if !past {
+        return 0;
+    }
     if l.low == 0 {
         if l.high == 0 {
             if l.length == 0 {
@@ -119,16 +142,21 @@ fn filled(l: Link) -> u64
 
 // Encodes m into `room` bytes a5, and shows them afterwards.
 fn show_written(m: Mesh, room: usize) -> bool {
-    if MOST_BYTES < room {
+    let mut space = [0xa5u8; MOST_BYTES];
+    write_into(m, &mut space, room)
+}
+
+fn write_into(m: Mesh, out: &mut [u8], room: usize) -> bool {
+    if out.len() < room {
         return false;
     }
-    let mut out = [0xa5u8; 2400];
-    let e = codec::encode(m, &mut out[..room]);
+    let e = codec::encode(m, &mut out[0..room]);
+    let a = e.answer;
     word(b"write");
-    answer(e.answer);
+    answer(a);
     field(b"length", e.length as u64);
     end();
-    hex(b"out", &out[..room]);
+    hex(b"out", &out[0..room]);
     true
 }
 
@@ -157,18 +185,29 @@ fn read_entries(m: Mesh, entries: u16) -> Mesh {
     let mut filled = m;
     let mut i: u16 = 0;
     while i < entries {
-        let mut b = [0u8; 9];
-        if io::read_full(STDIN_FILENO, &mut b) < 9 {
-            return filled;
-        }
-        let at = b[0] as usize;
-        filled.links[at] = Link {
-            low: b[1],
-            high: b[2],
-            length: two(b[3], b[4]),
-            pair: four(b[5], b[6], b[7], b[8]),
-        };
+        filled = read_entry(filled);
         i += 1;
     }
+    filled
+}
+
+// The mesh with one more entry.
+fn read_entry(m: Mesh) -> Mesh {
+    let mut b = [0u8; 9];
+    if io::read_full(STDIN_FILENO, &mut b) < 9 {
+        return m;
+    }
+    let l = Link {
+        low: b[1],
+        high: b[2],
+        length: two(b[3], b[4]),
+        pair: four(b[5], b[6], b[7], b[8]),
+    };
+    with_entry(m, b[0], l)
+}
+
+fn with_entry(m: Mesh, at: u8, l: Link) -> Mesh {
+    let mut filled = m;
+    filled.links[at as usize] = l;
     filled
 }

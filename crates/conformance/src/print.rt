@@ -35,6 +35,10 @@ pub(crate) fn answer(a: Answer) {
     end();
 }
 
+fn byte(b: u8) {
+    io::print_hex(STDOUT_FILENO, b as u64, 2);
+}
+
 // A line: a word and bytes, two digits each.
 pub(crate) fn hex(text: &[u8], bytes: &[u8]) {
     word(text);
@@ -43,7 +47,7 @@ pub(crate) fn hex(text: &[u8], bytes: &[u8]) {
     }
     let mut i: usize = 0;
     while i < bytes.len() {
-        io::print_hex(STDOUT_FILENO, bytes[i] as u64, 2);
+        byte(bytes[i]);
         i += 1;
     }
     end();

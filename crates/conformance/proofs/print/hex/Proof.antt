@@ -1,64 +1,49 @@
+-- `conformance::print::hex` is safe and ends.
+use borrow.Author.Needs.{needs}
+use native.Mathlib.Omega.{arith}
+use Prim.Native.Nat.{_-_, _≤_}
+use lib.ListN.{length}
 use Rattle.conformance.proofs.print.hex.Statement.{statement}
 use Rattle.conformance.proofs.print.hex.Tie as tie
-use Rattle.conformance.proofs.print.hex.Reads as reads
-use Rattle.conformance.proofs.print.hex.Lts as lts
-use Rattle.conformance.proofs.print.end.Reads as end-reads
-use Rattle.conformance.proofs.print.word.Reads as word-reads
-use Rattle.io.proofs.print_hex.Reads as print-hex-reads
 
 abbrev Inv-loop : tie.InvT-loop
-Inv-loop text bytes i₀ i = ?
+Inv-loop text bytes i₀ i = i ≤ length bytes
 
 abbrev μ-loop : tie.MeasureT-loop
-μ-loop text bytes i₀ i = ?
+μ-loop text bytes i₀ i = length bytes - i
 
--- src/print.rt:40:5
 word-requires : tie.Need-word-requires Inv-loop μ-loop
-word-requires c κs = ?
+word-requires c κs = search needs
 
--- src/print.rt:42:14
 slice-aggregate-word : tie.Need-slice-aggregate-word Inv-loop μ-loop
-slice-aggregate-word c = ?
+slice-aggregate-word c = search needs
 
--- src/print.rt:42:9
 word-requires-2 : tie.Need-word-requires-2 Inv-loop μ-loop
-word-requires-2 c κs = ?
+word-requires-2 c κs = search needs
 
--- src/print.rt:45:5
 loop-holds : tie.Need-loop-holds Inv-loop μ-loop
-loop-holds c = ?
+loop-holds c = search needs
 
--- src/print.rt:46:38
-shared-slice-read-print-hex : tie.Need-shared-slice-read-print-hex Inv-loop μ-loop
-shared-slice-read-print-hex c = ?
+shared-slice-read-byte : tie.Need-shared-slice-read-byte Inv-loop μ-loop
+shared-slice-read-byte c = search needs
 
--- src/print.rt:46:38
-cast-print-hex : tie.Need-cast-print-hex Inv-loop μ-loop
-cast-print-hex c = ?
+byte-requires : tie.Need-byte-requires Inv-loop μ-loop
+byte-requires c κs = search needs
 
--- src/print.rt:46:9
-print-hex-requires : tie.Need-print-hex-requires Inv-loop μ-loop
-print-hex-requires c κs = ?
-
--- src/print.rt:47:9
 add-i : tie.Need-add-i Inv-loop μ-loop
-add-i c = ?
+add-i c = search needs
 
--- src/print.rt:45:5
 loop-less : tie.Need-loop-less Inv-loop μ-loop
-loop-less c = ?
+loop-less c = search needs
 
--- src/print.rt:45:5
 loop-again : tie.Need-loop-again Inv-loop μ-loop
-loop-again c = ?
+loop-again c = search needs
 
--- src/print.rt:49:5
 end-requires : tie.Need-end-requires Inv-loop μ-loop
-end-requires c κs = ?
+end-requires c κs = search needs
 
--- src/print.rt:39:1
 returns : tie.Need-returns Inv-loop μ-loop
-returns c = ?
+returns c = search needs
 
 pub hex-spec : {M : Type 1} → statement M
 hex-spec =
@@ -70,9 +55,8 @@ hex-spec =
     slice-aggregate-word
     word-requires-2
     loop-holds
-    shared-slice-read-print-hex
-    cast-print-hex
-    print-hex-requires
+    shared-slice-read-byte
+    byte-requires
     add-i
     loop-less
     loop-again
