@@ -2,3 +2,5 @@ pub mod Walk
 pub mod Net
 pub mod Reach
 pub mod Plan
+pub mod Greedy
+pub mod Laws

@@ -21,6 +21,11 @@ pub struct Mesh {
     pub links: [Link; 256],
 }
 
+// A direction for each link: 0 from its low to its high end, 1 from its high to its low end. Entries past the last link are zero.
+pub struct Plan {
+    pub directions: [u8; 256],
+}
+
 // Accepted, or a refusal with 01's number and place.
 pub enum Answer {
     Accepted,

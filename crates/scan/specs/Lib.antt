@@ -3,8 +3,10 @@ pub mod Entry
 pub mod Lowest
 pub mod Total
 pub mod Distinct
+pub mod Flags
 pub mod Sweep
 pub mod Part
 pub mod Store
 pub mod Storing
 pub mod Bytes
+pub mod Bits

@@ -1,0 +1,9 @@
+pub mod Arcs
+pub mod Reached
+pub mod Orientation
+pub mod Connected
+pub mod First
+pub mod Bridge
+pub mod Pass
+pub mod Greedy
+pub mod Refusal
