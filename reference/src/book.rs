@@ -1,5 +1,6 @@
 //! The book: reading, writing and showing one record.
 
+use std::iter;
 use std::ops::Range;
 
 use crate::mesh::{check_count, check_ends, check_nodes, Link, Mesh};
@@ -9,10 +10,13 @@ use crate::refusal::{refuse_if, Answer, Reason, Refusal};
 
 const VERSION: u8 = 1;
 
+/// A book is at most this long.
+pub const MOST_BOOK_BYTES: usize = 2_308;
+
 /// Reads a book. A refused read gives the all-zero mesh.
 pub fn decode(book: &[u8]) -> (Mesh, Answer) {
-    match read(book) {
-        Ok(contents) => (contents.mesh, Ok(())),
+    match read(book, |_, _| ()) {
+        Ok(mesh) => (mesh, Ok(())),
         Err(refusal) => (Mesh::ZERO, Err(refusal)),
     }
 }
@@ -39,7 +43,8 @@ pub fn record(book: &[u8], link: usize) -> (&[u8], Answer) {
 
 /// The book of a well-formed mesh.
 pub fn bytes_of(mesh: &Mesh) -> Vec<u8> {
-    let mut book = vec![VERSION, mesh.nodes];
+    let mut book = Vec::with_capacity(MOST_BOOK_BYTES);
+    book.extend([VERSION, mesh.nodes]);
     book.extend(mesh.count.to_le_bytes());
     for record in records(mesh) {
         record.write(&mut book);
@@ -48,38 +53,33 @@ pub fn bytes_of(mesh: &Mesh) -> Vec<u8> {
 }
 
 /// The records of a mesh, in the order of its links.
-pub fn records(mesh: &Mesh) -> Vec<Record> {
-    let mut previous = None;
-    let mut records = Vec::new();
-    for link in mesh.counted() {
-        records.push(Record::of(link, previous));
-        previous = Some(link);
-    }
-    records
+pub fn records(mesh: &Mesh) -> impl Iterator<Item = Record> + '_ {
+    let links = mesh.counted();
+    let before = iter::once(None).chain(links.iter().map(Some));
+    let pairs = links.iter().zip(before);
+    pairs.map(|(link, previous)| Record::of(link, previous))
 }
 
-/// What an accepted book holds: the mesh, and where each record stands.
-struct Contents {
-    mesh: Mesh,
-    parts: Vec<Range<usize>>,
-}
-
-/// Order of reading: the header; each record; then 10.
-fn read(book: &[u8]) -> Result<Contents, Refusal> {
+/// Order of reading: the header; each record; then 10. Each record's number
+/// and its part of the book are shown to `see` on the way.
+fn read(book: &[u8], mut see: impl FnMut(usize, Range<usize>)) -> Result<Mesh, Refusal> {
     let mut reader = Reader::new(book);
     let (nodes, count) = read_header(&mut reader)?;
-    let mut links: Vec<Link> = Vec::new();
-    let mut parts = Vec::new();
-    for _ in 0..count {
+    let mut mesh = Mesh {
+        nodes,
+        count,
+        ..Mesh::ZERO
+    };
+    let mut previous = None;
+    for (number, entry) in mesh.links[..count.into()].iter_mut().enumerate() {
         let start = reader.at();
-        let link = read_link(&mut reader, links.last(), nodes)?;
-        links.push(link);
-        parts.push(start..reader.at());
+        *entry = read_link(&mut reader, previous.as_ref(), nodes)?;
+        previous = Some(*entry);
+        see(number, start..reader.at());
     }
     // 10: the place is the first extra byte.
     refuse_if(!reader.is_at_end(), Reason::BytesAfterLast, reader.at())?;
-    let mesh = Mesh::new(nodes, &links);
-    Ok(Contents { mesh, parts })
+    Ok(mesh)
 }
 
 /// Order of the header: 1 (under 4 bytes), 2, 3, 4. Gives N and L.
@@ -127,8 +127,12 @@ fn book_short(reader: &Reader) -> Refusal {
 
 /// Order of showing a record: reading, 12.
 fn record_part(book: &[u8], link: usize) -> Result<Range<usize>, Refusal> {
-    let contents = read(book)?;
+    let mut part = None;
+    read(book, |number, bytes| {
+        if number == link {
+            part = Some(bytes);
+        }
+    })?;
     // 12: the place is the link named.
-    let no_such_link = Refusal::new(Reason::NoSuchLink, link);
-    contents.parts.get(link).cloned().ok_or(no_such_link)
+    part.ok_or(Refusal::new(Reason::NoSuchLink, link))
 }

@@ -5,6 +5,7 @@ use crate::reader::Reader;
 
 const BOOK: u8 = b'B';
 const MESH: u8 = b'M';
+const PLANNING: u8 = b'P';
 
 /// The greatest room of a case and the greatest length of its book.
 pub const MOST_BYTES: usize = 2_400;
@@ -15,6 +16,9 @@ pub enum Case {
     Book { room: u16, link: u16, book: Vec<u8> },
     /// A mesh record and the output's size.
     Mesh { room: u16, mesh: Box<Mesh> },
+    /// A mesh to plan: at most 256 links without lengths and fibre pairs, and
+    /// zeros past them.
+    Planning { mesh: Box<Mesh> },
 }
 
 /// The bytes of a corpus, one case after the other.
@@ -24,6 +28,7 @@ pub fn write_cases(cases: &[Case]) -> Vec<u8> {
         match case {
             Case::Book { room, link, book } => write_book(*room, *link, book, &mut output),
             Case::Mesh { room, mesh } => write_mesh(*room, mesh, &mut output),
+            Case::Planning { mesh } => write_planning(mesh, &mut output),
         }
     }
     output
@@ -54,6 +59,14 @@ fn write_mesh(room: u16, mesh: &Mesh, output: &mut Vec<u8>) {
     }
 }
 
+fn write_planning(mesh: &Mesh, output: &mut Vec<u8>) {
+    output.extend([PLANNING, mesh.nodes]);
+    output.extend(mesh.count.to_le_bytes());
+    for link in mesh.counted() {
+        output.extend([link.low, link.high]);
+    }
+}
+
 /// The cases of a corpus; an error tells where the corpus is ill-formed.
 pub fn read_cases(corpus: &[u8]) -> Result<Vec<Case>, String> {
     let mut reader = Reader::new(corpus);
@@ -70,6 +83,7 @@ fn read_case(reader: &mut Reader) -> Option<Case> {
     match reader.one()? {
         BOOK => read_book(reader),
         MESH => read_mesh(reader),
+        PLANNING => read_planning(reader),
         _ => None,
     }
 }
@@ -98,4 +112,15 @@ fn read_mesh(reader: &mut Reader) -> Option<Case> {
         };
     }
     Some(Case::Mesh { room, mesh })
+}
+
+fn read_planning(reader: &mut Reader) -> Option<Case> {
+    let mut mesh = Box::new(Mesh::ZERO);
+    mesh.nodes = reader.one()?;
+    mesh.count = reader.two()?;
+    for entry in mesh.links.get_mut(..mesh.count.into())? {
+        entry.low = reader.one()?;
+        entry.high = reader.one()?;
+    }
+    Some(Case::Planning { mesh })
 }

@@ -4,20 +4,27 @@ pub mod accepted;
 pub mod changed;
 pub mod draft;
 pub mod faults;
+pub mod graphs;
 pub mod headers;
+pub mod largest_graphs;
 pub mod mesh_records;
 pub mod meshes;
+pub mod named_graphs;
+pub mod parted_graphs;
+pub mod planning;
 pub mod questions;
+pub mod random_graphs;
 pub mod shapes;
 pub mod truncated;
 pub mod wrong_meshes;
+pub mod wrong_plannings;
 pub mod wrong_records;
 
 use crate::book::bytes_of;
 use crate::case::Case;
 use crate::random::Random;
 
-/// All cases of the corpus: books first, then mesh records.
+/// All cases of the corpus: books first, then mesh records, then plannings.
 pub fn make(seed: u64) -> Vec<Case> {
     let mut random = Random::new(seed);
     let books = all_books(&mut random);
@@ -27,6 +34,7 @@ pub fn make(seed: u64) -> Vec<Case> {
         .collect();
     cases.extend(questions::every_question(&mut random));
     cases.extend(mesh_records::cases(&mut random));
+    cases.extend(planning::cases(&mut random));
     cases
 }
 

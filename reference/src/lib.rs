@@ -1,12 +1,20 @@
-//! Second implementation of the mesh book, and the corpus that compares
-//! implementations.
+//! Second implementation of the mesh book and the plan, and the corpus that
+//! compares implementations.
 
+pub mod arcs;
+pub mod bench;
 pub mod book;
 pub mod case;
 pub mod corpus;
 pub mod listing;
 pub mod mesh;
+pub mod node_set;
+pub mod plain_plan;
+pub mod plan;
 pub mod random;
 pub mod reader;
 pub mod record;
 pub mod refusal;
+pub mod timing;
+pub mod tree;
+pub mod walks;

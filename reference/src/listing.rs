@@ -3,21 +3,24 @@
 use crate::book::{decode, encode, record};
 use crate::case::Case;
 use crate::mesh::{Link, Mesh};
-use crate::refusal::Answer;
+use crate::plain_plan::checked_plan;
+use crate::refusal::{in_words, Answer};
 
 /// Every byte of an output before it is lent.
 const FILL: u8 = 0xa5;
 
-/// The listing of all cases, numbered from 0.
-pub fn listing(cases: &[Case]) -> String {
+/// The listing of all cases, numbered from 0; an error if the planner and the
+/// definition differ on one.
+pub fn listing(cases: &[Case]) -> Result<String, String> {
     let mut lines = Lines::default();
     for (number, case) in cases.iter().enumerate() {
         match case {
             Case::Book { room, link, book } => lines.book(number, *room, *link, book),
             Case::Mesh { room, mesh } => lines.mesh_record(number, *room, mesh),
+            Case::Planning { mesh } => lines.planning(number, mesh)?,
         }
     }
-    lines.text
+    Ok(lines.text)
 }
 
 #[derive(Default)]
@@ -41,6 +44,19 @@ impl Lines {
         self.line(&format!("record-of-mesh {number}"));
         self.answer("check", mesh.check());
         self.write(mesh, room);
+    }
+
+    fn planning(&mut self, number: usize, mesh: &Mesh) -> Result<(), String> {
+        self.line(&format!("planning {number} {} {}", mesh.nodes, mesh.count));
+        let checked = checked_plan(mesh);
+        let (plan, answer) = checked.map_err(|error| format!("case {number}: {error}"))?;
+        self.answer("plan", answer);
+        let count = mesh.counted().len();
+        self.digits("directions", &plan.digits(count));
+        let past = plan.directions[count..].iter();
+        let rest = past.filter(|direction| **direction != 0).count();
+        self.line(&format!("rest {rest}"));
+        Ok(())
     }
 
     fn mesh(&mut self, mesh: &Mesh) {
@@ -68,20 +84,18 @@ impl Lines {
     }
 
     fn answer(&mut self, word: &str, answer: Answer) {
-        match answer {
-            Ok(()) => self.line(&format!("{word} accepted")),
-            Err(refusal) => {
-                let (number, place) = (refusal.number(), refusal.place);
-                self.line(&format!("{word} refused {number} {place}"));
-            }
-        }
+        self.line(&format!("{word} {}", in_words(answer)));
     }
 
-    /// The bytes in hexadecimal; without bytes the line is just its word.
+    /// The bytes in hexadecimal.
     fn bytes(&mut self, word: &str, bytes: &[u8]) {
         let digits: String = bytes.iter().map(|byte| format!("{byte:02x}")).collect();
-        let line = format!("{word} {digits}");
-        self.line(line.trim_end());
+        self.digits(word, &digits);
+    }
+
+    /// Without digits the line is just its word.
+    fn digits(&mut self, word: &str, digits: &str) {
+        self.line(format!("{word} {digits}").trim_end());
     }
 
     fn line(&mut self, line: &str) {
@@ -94,6 +108,7 @@ impl Lines {
 mod tests {
     use super::listing;
     use crate::case::Case;
+    use crate::corpus::meshes::plain;
     use crate::mesh::Mesh;
 
     #[test]
@@ -105,7 +120,7 @@ mod tests {
         };
         let expected = "book 0 7\nread accepted\nmesh 2 1\nlink 0 0 1 256 0\nrest 0\n\
             write accepted\nlength 7\nout 01020100040001\nrecord accepted\npart 040001\n";
-        assert_eq!(listing(&[case]), expected);
+        assert_eq!(listing(&[case]).unwrap(), expected);
     }
 
     #[test]
@@ -117,7 +132,7 @@ mod tests {
         };
         let expected = "book 0 0\nread refused 1 0\nmesh 0 0\nrest 0\n\
             write refused 3 0\nlength 0\nout a5a5\nrecord refused 1 0\npart\n";
-        assert_eq!(listing(&[case]), expected);
+        assert_eq!(listing(&[case]).unwrap(), expected);
     }
 
     #[test]
@@ -130,6 +145,20 @@ mod tests {
         let long = Case::Mesh { room: 5, mesh };
         let expected = "record-of-mesh 0\ncheck accepted\nwrite refused 11 4\nlength 0\nout\n\
             record-of-mesh 1\ncheck accepted\nwrite accepted\nlength 4\nout 01020000a5\n";
-        assert_eq!(listing(&[short, long]), expected);
+        assert_eq!(listing(&[short, long]).unwrap(), expected);
+    }
+
+    #[test]
+    fn lists_a_planning() {
+        let planning = |nodes, ends: &[(u8, u8)]| Case::Planning {
+            mesh: Box::new(plain(nodes, ends)),
+        };
+        let triangle = planning(3, &[(0, 1), (0, 2), (1, 2)]);
+        let path = planning(3, &[(0, 1), (1, 2)]);
+        let expected = "planning 0 3 3\nplan accepted\ndirections 010\nrest 0\n\
+            planning 1 3 2\nplan refused 21 0\ndirections 00\nrest 0\n\
+            planning 2 2 0\nplan refused 20 1\ndirections\nrest 0\n";
+        let cases = [triangle, path, planning(2, &[])];
+        assert_eq!(listing(&cases).unwrap(), expected);
     }
 }

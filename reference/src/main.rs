@@ -1,24 +1,33 @@
 //! `reference corpus SEED` writes a corpus; `reference expect` reads a corpus
-//! and writes its listing.
+//! and writes its listing; `reference bench` repeats a job on a book;
+//! `reference time PROGRAM` measures a program with the same input and output
+//! as `reference bench` against it.
 
 use std::io::{self, Read, Write};
 use std::process::ExitCode;
 
 use reference::case::{read_cases, write_cases};
-use reference::{corpus, listing};
+use reference::timing::program::Program;
+use reference::timing::write_table;
+use reference::{bench, corpus, listing};
 
 fn main() -> ExitCode {
     let arguments: Vec<String> = std::env::args().skip(1).collect();
     let words: Vec<&str> = arguments.iter().map(String::as_str).collect();
     match words[..] {
         ["corpus", seed] => seed.parse().map_or_else(|_| usage(), write_corpus),
-        ["expect"] => write_listing(),
+        ["expect"] => finish(write_listing()),
+        ["bench"] => finish(write_bench_line()),
+        ["time", program] => finish(write_times(program)),
         _ => usage(),
     }
 }
 
 fn usage() -> ExitCode {
-    eprintln!("usage: reference corpus SEED | reference expect");
+    eprintln!(
+        "usage: reference corpus SEED | reference expect | reference bench | \
+         reference time PROGRAM"
+    );
     ExitCode::from(2)
 }
 
@@ -27,15 +36,27 @@ fn write_corpus(seed: u64) -> ExitCode {
     finish(io::stdout().write_all(&write_cases(&cases)))
 }
 
-fn write_listing() -> ExitCode {
-    finish(read_and_list())
+fn write_listing() -> io::Result<()> {
+    let cases = read_cases(&read_input()?).map_err(io::Error::other)?;
+    let listing = listing::listing(&cases).map_err(io::Error::other)?;
+    io::stdout().write_all(listing.as_bytes())
 }
 
-fn read_and_list() -> io::Result<()> {
-    let mut corpus = Vec::new();
-    io::stdin().read_to_end(&mut corpus)?;
-    let cases = read_cases(&corpus).map_err(io::Error::other)?;
-    io::stdout().write_all(listing::listing(&cases).as_bytes())
+fn write_bench_line() -> io::Result<()> {
+    let line = bench::line(&read_input()?).map_err(io::Error::other)?;
+    writeln!(io::stdout(), "{line}")
+}
+
+fn write_times(program: &str) -> io::Result<()> {
+    let measured = Program::new(program, &[]);
+    let bench = Program::new(std::env::current_exe()?, &["bench"]);
+    write_table(&measured, &bench, &mut io::stdout())
+}
+
+fn read_input() -> io::Result<Vec<u8>> {
+    let mut input = Vec::new();
+    io::stdin().read_to_end(&mut input)?;
+    Ok(input)
 }
 
 fn finish(result: io::Result<()>) -> ExitCode {

@@ -10,6 +10,7 @@ pub const MOST_LINKS: usize = 256;
 pub type Ends = (u16, u16);
 
 #[derive(Clone, Copy, Debug, PartialEq, Eq)]
+#[repr(C)]
 pub struct Link {
     pub low: u8,
     pub high: u8,
@@ -27,6 +28,12 @@ impl Link {
 
     pub fn ends(&self) -> Ends {
         (self.low.into(), self.high.into())
+    }
+
+    /// All fields in one number, as they stand in memory.
+    fn bits(&self) -> u64 {
+        let ends = u64::from(self.low) | u64::from(self.high) << 8;
+        ends | u64::from(self.length) << 16 | u64::from(self.pair) << 32
     }
 }
 
@@ -79,8 +86,9 @@ impl Mesh {
             previous = Some(link.ends());
         }
         // 13: entries past the last link are all zero.
-        let all_zero = self.past_count().iter().all(|entry| *entry == Link::ZERO);
-        refuse_if(!all_zero, Reason::IllFormed, 0)
+        let past = self.past_count().iter();
+        let bits = past.fold(0, |bits, entry| bits | entry.bits());
+        refuse_if(bits != 0, Reason::IllFormed, 0)
     }
 }
 

@@ -62,8 +62,12 @@ impl Record {
         output.push(self.bit_map());
         output.extend(self.low);
         output.extend(self.high);
-        output.extend(self.length.into_iter().flat_map(u16::to_le_bytes));
-        output.extend(self.pair.into_iter().flat_map(u32::to_le_bytes));
+        if let Some(length) = self.length {
+            output.extend_from_slice(&length.to_le_bytes());
+        }
+        if let Some(pair) = self.pair {
+            output.extend_from_slice(&pair.to_le_bytes());
+        }
     }
 
     /// The ends, absent ones by their absent values.

@@ -17,6 +17,8 @@ pub enum Reason {
     OutputShort = 11,
     NoSuchLink = 12,
     IllFormed = 13,
+    NoPath = 20,
+    RemovalParts = 21,
 }
 
 #[derive(Clone, Copy, Debug, PartialEq, Eq)]
@@ -37,6 +39,14 @@ impl Refusal {
 
 /// The answer of a call: accepted, or refused.
 pub type Answer = Result<(), Refusal>;
+
+/// An answer in words: `accepted` or `refused NUMBER PLACE`.
+pub fn in_words(answer: Answer) -> String {
+    match answer {
+        Ok(()) => "accepted".to_string(),
+        Err(refusal) => format!("refused {} {}", refusal.number(), refusal.place),
+    }
+}
 
 /// Refuses with `reason` at `place` where `condition` holds.
 pub fn refuse_if(condition: bool, reason: Reason, place: usize) -> Answer {

@@ -1,7 +1,8 @@
-//! The document's bench examples, as far as they concern the book.
+//! The document's bench examples, as far as they concern the book and the plan.
 
 use reference::book::{decode, encode, record};
 use reference::mesh::{Link, Mesh};
+use reference::plan::{plan, Plan};
 use reference::refusal::{Answer, Reason, Refusal};
 
 const P1: [u8; 9] = [1, 3, 3, 0, 0, 2, 2, 1, 1];
@@ -38,24 +39,49 @@ fn assert_refuses(book: &[u8], expected: Answer) {
     assert_eq!(record(book, 0), (&[][..], expected));
 }
 
+fn assert_plans(book: &[u8], directions: &[u8]) {
+    let mut expected = Plan::ZERO;
+    expected.directions[..directions.len()].copy_from_slice(directions);
+    assert_eq!(plan(&decode(book).0), (expected, Ok(())));
+}
+
+fn assert_refuses_plan(mesh: &Mesh, expected: Answer) {
+    assert_eq!(plan(mesh), (Plan::ZERO, expected));
+}
+
 #[test]
 fn p1_triangle() {
     assert_reads(&P1, &mesh(3, &[(0, 1), (0, 2), (1, 2)]));
+    assert_plans(&P1, &[0, 1, 0]);
 }
 
 #[test]
 fn p3_one_link() {
-    assert_reads(&P3, &mesh(2, &[(0, 1)]));
+    let one_link = mesh(2, &[(0, 1)]);
+    assert_reads(&P3, &one_link);
+    assert_refuses_plan(&one_link, refused(Reason::RemovalParts, 0));
 }
 
 #[test]
 fn p4_no_link() {
-    assert_reads(&P4, &mesh(2, &[]));
+    let no_link = mesh(2, &[]);
+    assert_reads(&P4, &no_link);
+    assert_refuses_plan(&no_link, refused(Reason::NoPath, 1));
 }
 
 #[test]
 fn p5_four_nodes() {
     assert_reads(&P5, &mesh(4, &[(0, 1), (0, 2), (0, 3), (1, 2), (2, 3)]));
+    assert_plans(&P5, &[0, 0, 1, 0, 0]);
+}
+
+#[test]
+fn two_triangles_joined_by_one_link() {
+    let ends = [(0, 1), (0, 2), (1, 2), (2, 3), (3, 4), (3, 5), (4, 5)];
+    let joined = mesh(6, &ends);
+    assert_refuses_plan(&joined, refused(Reason::RemovalParts, 3));
+    let apart = mesh(6, &[&ends[..3], &ends[4..]].concat());
+    assert_refuses_plan(&apart, refused(Reason::NoPath, 3));
 }
 
 #[test]
@@ -133,5 +159,6 @@ fn mesh_checks_in_order() {
     assert_eq!(wrong.check(), refused(Reason::Count, 0));
     wrong.nodes = 65;
     assert_eq!(wrong.check(), refused(Reason::Nodes, 0));
+    assert_refuses_plan(&wrong, refused(Reason::Nodes, 0));
     assert_eq!(good.check(), Ok(()));
 }

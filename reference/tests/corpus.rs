@@ -16,6 +16,23 @@ fn refusals(listing: &str, word: &str) -> BTreeSet<u8> {
     numbers.map(|number| number.parse().unwrap()).collect()
 }
 
+fn listed(cases: &[Case]) -> String {
+    listing(cases).expect("both methods of planning agree")
+}
+
+/// The number of cases of each kind: books, mesh records, plannings.
+fn counts(cases: &[Case]) -> [usize; 3] {
+    let mut counts = [0; 3];
+    for case in cases {
+        counts[match case {
+            Case::Book { .. } => 0,
+            Case::Mesh { .. } => 1,
+            Case::Planning { .. } => 2,
+        }] += 1;
+    }
+    counts
+}
+
 #[test]
 fn a_written_corpus_reads_back() {
     for seed in SEEDS {
@@ -35,20 +52,30 @@ fn an_ill_formed_corpus_is_an_error() {
     let corpus = write_cases(&corpus::make(1)[..3]);
     assert!(read_cases(&corpus[..corpus.len() - 1]).is_err());
     assert!(read_cases(b"X").is_err());
+    let with_257_links = [&[b'P', 64, 1, 1][..], &[0; 2 * 257]].concat();
+    assert!(read_cases(&with_257_links).is_err());
 }
 
 #[test]
 fn counts_and_sizes() {
     for seed in SEEDS {
         let cases = corpus::make(seed);
-        let books = cases
-            .iter()
-            .filter(|case| matches!(case, Case::Book { .. }));
-        let books = books.count();
+        let [books, mesh_records, plannings] = counts(&cases);
         assert!(books >= 2_400);
-        assert!(cases.len() - books >= 300);
+        assert!(mesh_records >= 300);
+        assert!(plannings >= 1_200);
         assert!(write_cases(&cases).len() < 1_200_000);
-        assert!(listing(&cases).len() < 3_000_000);
+        assert!(listed(&cases).len() < 3_000_000);
+    }
+}
+
+#[test]
+fn plannings_come_last_and_are_small() {
+    for seed in SEEDS {
+        let cases = corpus::make(seed);
+        let plannings = &cases[cases.len() - counts(&cases)[2]..];
+        assert_eq!(counts(plannings)[2], plannings.len());
+        assert!(write_cases(plannings).len() < 350_000);
     }
 }
 
@@ -59,6 +86,7 @@ fn rooms_and_books_are_within_the_limit() {
             let (room, length) = match case {
                 Case::Book { room, book, .. } => (room, book.len()),
                 Case::Mesh { room, .. } => (room, 0),
+                Case::Planning { .. } => (0, 0),
             };
             assert!(usize::from(room) <= MOST_BYTES);
             assert!(length <= MOST_BYTES);
@@ -69,7 +97,7 @@ fn rooms_and_books_are_within_the_limit() {
 #[test]
 fn every_refusal_is_met() {
     for seed in SEEDS {
-        let text = listing(&corpus::make(seed));
+        let text = listed(&corpus::make(seed));
         let reading = BTreeSet::from_iter(1..=10);
         assert_eq!(refusals(&text, "read"), reading);
         let mut showing = reading;
@@ -81,12 +109,18 @@ fn every_refusal_is_met() {
         );
         let writing = BTreeSet::from([3, 4, 6, 7, 8, 11, 13]);
         assert_eq!(refusals(&text, "write"), writing);
+        let planning = BTreeSet::from([3, 6, 7, 8, 20, 21]);
+        assert_eq!(refusals(&text, "plan"), planning);
+        let count = |start| text.lines().filter(|line| line.starts_with(start)).count();
+        assert!(count("plan accepted") >= 700);
+        assert!(count("plan refused 20 ") >= 200);
+        assert!(count("plan refused 21 ") >= 300);
     }
 }
 
 #[test]
 fn the_listing_has_no_trailing_spaces() {
-    let text = listing(&corpus::make(1));
+    let text = listed(&corpus::make(1));
     assert!(text.is_ascii());
     assert!(text.ends_with('\n'));
     assert!(text.lines().all(|line| line == line.trim()));

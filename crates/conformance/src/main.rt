@@ -1,6 +1,10 @@
 // Reads the corpus from standard input and prints what the library answers to each case (docs/CORPUS.md).
+mod book;
 mod case;
+mod planning;
 mod print;
+mod record;
+mod written;
 
 // The most cases that are read, so that the loop ends whatever the input holds.
 const MOST_CASES: u64 = 1000000;

@@ -12,6 +12,11 @@ pub(crate) fn number(n: u64) {
     io::print_decimal(STDOUT_FILENO, n);
 }
 
+// A number with no space.
+pub(crate) fn digit(d: u8) {
+    io::print_decimal(STDOUT_FILENO, d as u64);
+}
+
 pub(crate) fn end() {
     io::write_all(STDOUT_FILENO, b"\n");
 }

@@ -1,8 +1,8 @@
 -- The theorem page: what is claimed of the library, each theorem stated in full over the definitions that the contracts cite, and proved
 -- by citing one lemma. README.md leads from each demand to its theorem here.
-use Prim.Native.Nat.{ℕ, _≤_}
+use Prim.Native.Nat.{ℕ, _≤_, _<_}
 use mathlib.Core.Path.{_≡_}
-use mathlib.Core.Logic.{_↔_}
+use mathlib.Core.Logic.{_⊎_, _↔_}
 use mathlib.Core.List.{List, _++_, List·Memᴰ}
 use lib.ListN.{length, take, drop}
 use Rattle.scan.specs.Bytes.{AreBytes}
@@ -16,6 +16,11 @@ use Rattle.mesh.specs.Laws.Refused.{refused-only}
 use Rattle.codec.specs.Book.{bookOf, encoded, outputAfter, decoded}
 use Rattle.codec.specs.Laws.Written.{decoded-output, book-most}
 use Rattle.codec.specs.Laws.Read.{decoded-accepted, decoded-in-range, output-decoded, one-book, accepted-most}
+use Rattle.graph.specs.Net.{Parted, bothWays, without, First}
+use Rattle.graph.specs.Laws.First.{first-unique}
+use Rattle.planner.specs.Plan.{netOf, planned}
+use Rattle.planner.specs.Meaning.{NoPath, LinkParts, FirstPlan}
+use Rattle.planner.specs.Laws.Meaning.{plan-refuses, plan-first, plan-numbers}
 use Rattle.guarantees.specs.Bench.{Row, table}
 use Rattle.guarantees.specs.Laws.Computed.{row-holds}
 
@@ -61,8 +66,30 @@ book-length = book-most
 pub accepted-length : (s : List ℕ) → AreBytes s → decoded s .answer ≡ Accepted → length s ≤ 2308
 accepted-length = accepted-most
 
+-- ---- demand 3, first sentence, and demand 2's plan (contract: crates/planner/src/lib.rt, `plan`)
+
+-- planning refuses a mesh that passes the checks exactly when some two nodes have no path between them, or have none once some one link is
+-- taken away
+pub plan-refused : (m : Mesh) → meshAnswer m ≡ Accepted
+    → ((number : ℕ) × (place : ℕ) × (planned m .answer ≡ Refused number place))
+    ↔ (Parted (netOf m) bothWays ⊎ ((k : ℕ) × (k < m .count) × Parted (netOf m) (without k bothWays)))
+plan-refused = plan-refuses
+
+-- when it accepts, its directions are admissible, no admissible assignment stands before them, and the entries past the last link are zero
+pub plan-accepted : (m : Mesh) → planned m .answer ≡ Accepted → FirstPlan m
+plan-accepted = plan-first
+
+-- each refusal has its own condition, and its place is the lowest such node or link
+pub plan-places : (m : Mesh) (number place : ℕ) → meshAnswer m ≡ Accepted → planned m .answer ≡ Refused number place
+    → ((number ≡ 20) × NoPath (netOf m) place) ⊎ ((number ≡ 21) × LinkParts (netOf m) place)
+plan-places = plan-numbers
+
+-- there is only one such assignment
+pub plan-unique : (m : Mesh) (p q : List ℕ) → First (netOf m) p → First (netOf m) q → p ≡ q
+plan-unique m = first-unique
+
 -- ---- 01's bench examples marked P
 
 -- every row of the table holds
-pub bench : (r : Row) → List·Memᴰ r table → decoded (r .book) ≡ r .reading
+pub bench : (r : Row) → List·Memᴰ r table → (decoded (r .book) ≡ r .reading) × (planned (decoded (r .book) .mesh) ≡ r .planning)
 bench = row-holds

@@ -1,4 +1,5 @@
 pub mod Mesh
 pub mod WellFormed
 pub mod Refusal
+pub mod Arc
 pub mod Laws

@@ -27,7 +27,7 @@ fn bench_examples() -> Vec<Mesh> {
 }
 
 /// Every choice of links on 2, 3 and 4 nodes.
-fn every_small_mesh() -> Vec<Mesh> {
+pub fn every_small_mesh() -> Vec<Mesh> {
     let every_choice = |nodes: u8, pairs: usize| {
         (0..1 << pairs).map(move |choice| plain(nodes, &shapes::chosen(nodes, choice)))
     };

@@ -19,7 +19,7 @@ impl Draft {
             version: 1,
             nodes: mesh.nodes,
             count: mesh.count,
-            records: records(mesh),
+            records: records(mesh).collect(),
             extra: Vec::new(),
         }
     }

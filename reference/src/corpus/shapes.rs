@@ -32,6 +32,53 @@ pub fn grid(width: u8, height: u8) -> Shape {
     sorted(right.chain(down.map(|node| (node, node + width))))
 }
 
+/// Two rails with a rung between each two of their nodes.
+pub fn ladder(rungs: u8) -> Shape {
+    grid(2, rungs)
+}
+
+/// A ring with links to the nodes that stand each of `steps` further on.
+pub fn ring_with_steps(nodes: u8, steps: &[u8]) -> Shape {
+    let from = |node| steps.iter().map(move |step| (node, (node + step) % nodes));
+    sorted(ring(nodes).into_iter().chain((0..nodes).flat_map(from)))
+}
+
+/// Node 0 with a link to each node of a ring of at least three.
+pub fn wheel(nodes: u8) -> Shape {
+    let rim = ring(nodes - 1).into_iter();
+    let rim = rim.map(|(low, high)| (low + 1, high + 1));
+    sorted(star(nodes, 0).into_iter().chain(rim))
+}
+
+/// Each of the first `left` nodes with each of the `right` others.
+pub fn bipartite(left: u8, right: u8) -> Shape {
+    let from = |low| (left..left + right).map(move |high| (low, high));
+    (0..left).flat_map(from).collect()
+}
+
+/// Nodes 0 and 1, each with a link to every other, also to each other.
+pub fn two_hubs(nodes: u8) -> Shape {
+    sorted(star(nodes, 0).into_iter().chain(star(nodes, 1)))
+}
+
+/// A ring and then paths of new nodes between nodes already there, so that
+/// no link's removal parts the mesh. The ends of a path can be the same node
+/// where it has two new nodes or more.
+pub fn ears(nodes: u8, random: &mut Random) -> Shape {
+    let mut there = random.between(3, nodes.into()) as u8;
+    let mut ends = ring(there);
+    while there < nodes {
+        let last = random.between(there.into(), usize::from(nodes) - 1) as u8;
+        let least_step = usize::from(last == there);
+        let from = random.below(there.into()) as u8;
+        let step = random.between(least_step, usize::from(there) - 1) as u8;
+        ends.extend((there..last).map(|node| (node, node + 1)));
+        ends.extend([(from, there), ((from + step) % there, last)]);
+        there = last + 1;
+    }
+    sorted(ends.into_iter())
+}
+
 pub fn complete(nodes: u8) -> Shape {
     let from = |low| (low + 1..nodes).map(move |high| (low, high));
     (0..nodes).flat_map(from).collect()
@@ -45,6 +92,15 @@ pub fn scattered(nodes: u8, count: usize, random: &mut Random) -> Shape {
     sorted(all.into_iter())
 }
 
+/// The shape with `count` more random links, as far as pairs are left.
+pub fn with_more(nodes: u8, mut shape: Shape, count: usize, random: &mut Random) -> Shape {
+    let mut others = complete(nodes);
+    others.retain(|ends| shape.binary_search(ends).is_err());
+    random.shuffle(&mut others);
+    shape.extend(others.into_iter().take(count));
+    sorted(shape.into_iter())
+}
+
 /// The graph whose links are the pairs of nodes with a bit set in `choice`.
 pub fn chosen(nodes: u8, choice: usize) -> Shape {
     let numbered = (0..).zip(complete(nodes));
@@ -52,8 +108,10 @@ pub fn chosen(nodes: u8, choice: usize) -> Shape {
     kept.map(|(_, ends)| ends).collect()
 }
 
-fn sorted(ends: impl Iterator<Item = (u8, u8)>) -> Shape {
+/// The pairs in rising order, each once.
+pub fn sorted(ends: impl Iterator<Item = (u8, u8)>) -> Shape {
     let mut shape: Shape = ends.map(|(a, b)| (a.min(b), a.max(b))).collect();
     shape.sort_unstable();
+    shape.dedup();
     shape
 }

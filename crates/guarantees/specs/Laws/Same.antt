@@ -1,4 +1,4 @@
--- Computed equality of answers, meshes and what reading gives: where the test passes, the two are equal. Assumes nothing.
+-- Computed equality of answers, meshes, what reading gives and what planning gives: where the test passes, the two are equal. Assumes nothing.
 use Prim.Native.Nat.{ℕ}
 use mathlib.Core.Path.{_≡_, refl}
 use mathlib.Core.Bool.{Bool, true, false, _&&_, false≢true, and-eq-true-iff}
@@ -10,6 +10,7 @@ use Rattle.mesh.specs.declared.Mesh.{Mesh}
 use Rattle.mesh.specs.declared.Answer.{Answer}
 use Rattle.mesh.specs.declared.Answer.the-variants.{Accepted, Refused}
 use Rattle.codec.specs.declared.Decoded.{Decoded}
+use Rattle.planner.specs.declared.Planned.{Planned}
 
 abbrev pub sameLink : Link → Link → Bool
 sameLink a b = eqb (a .low) (b .low) && (eqb (a .high) (b .high) && (eqb (a .length) (b .length) && eqb (a .pair) (b .pair)))
@@ -65,3 +66,28 @@ pub same-decoded : (a b : Decoded) → sameDecoded a b ≡ true → a ≡ b
 same-decoded a b e =
     let (mesh, answer) = and-eq-true-iff (sameMesh (a .mesh) (b .mesh)) _ .0 e in
     λ j. record { mesh = same-mesh (a .mesh) (b .mesh) mesh j; answer = same-answer (a .answer) (b .answer) answer j }
+
+abbrev pub sameNumbers : List ℕ → List ℕ → Bool
+sameNumbers [] [] = true
+sameNumbers [] (b ∷ bs) = false
+sameNumbers (a ∷ r) [] = false
+sameNumbers (a ∷ r) (b ∷ bs) = eqb a b && sameNumbers r bs
+
+pub same-numbers : (r bs : List ℕ) → sameNumbers r bs ≡ true → r ≡ bs
+same-numbers [] [] e = refl
+same-numbers [] (b ∷ bs) e = absurd (false≢true e)
+same-numbers (a ∷ r) [] e = absurd (false≢true e)
+same-numbers (a ∷ r) (b ∷ bs) e =
+    let (first, rest) = and-eq-true-iff (eqb a b) _ .0 e in
+    λ j. eqb-true a b first j ∷ same-numbers r bs rest j
+
+abbrev pub samePlanned : Planned → Planned → Bool
+samePlanned a b = sameNumbers (a .plan .directions) (b .plan .directions) && sameAnswer (a .answer) (b .answer)
+
+pub same-planned : (a b : Planned) → samePlanned a b ≡ true → a ≡ b
+same-planned a b e =
+    let (plan, answer) = and-eq-true-iff (sameNumbers (a .plan .directions) (b .plan .directions)) _ .0 e in
+    λ j. record {
+      plan = record { directions = same-numbers (a .plan .directions) (b .plan .directions) plan j };
+      answer = same-answer (a .answer) (b .answer) answer j;
+    }

@@ -1,9 +1,9 @@
--- `conformance::case::read_entries` is safe and ends.
+-- `conformance::record::read_entries` is safe and ends.
 use borrow.Author.Needs.{needs}
 use native.Mathlib.Omega.{arith}
 use Prim.Native.Nat.{_-_, _≤_}
-use Rattle.conformance.proofs.case.read_entries.Statement.{statement}
-use Rattle.conformance.proofs.case.read_entries.Tie as tie
+use Rattle.conformance.proofs.record.read_entries.Statement.{statement}
+use Rattle.conformance.proofs.record.read_entries.Tie as tie
 
 abbrev Inv-loop : tie.InvT-loop
 Inv-loop entries filled₀ i₀ filled i = i ≤ entries

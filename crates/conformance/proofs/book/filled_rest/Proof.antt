@@ -1,9 +1,9 @@
--- `conformance::case::filled_rest` is safe and ends: the sum is at most the number of entries passed.
+-- `conformance::book::filled_rest` is safe and ends: the sum is at most the number of entries passed.
 use borrow.Author.Needs.{needs}
 use native.Mathlib.Omega.{arith}
 use Prim.Native.Nat.{_-_, _≤_}
-use Rattle.conformance.proofs.case.filled_rest.Statement.{statement}
-use Rattle.conformance.proofs.case.filled_rest.Tie as tie
+use Rattle.conformance.proofs.book.filled_rest.Statement.{statement}
+use Rattle.conformance.proofs.book.filled_rest.Tie as tie
 
 abbrev Inv-loop : tie.InvT-loop
 Inv-loop m count rest₀ i₀ rest i = (rest ≤ i) × (i ≤ 256)

@@ -1,9 +1,9 @@
--- `conformance::case::show_links` is safe and ends.
+-- `conformance::book::show_links` is safe and ends.
 use borrow.Author.Needs.{needs}
 use native.Mathlib.Omega.{arith}
 use Prim.Native.Nat.{_-_, _≤_}
-use Rattle.conformance.proofs.case.show_links.Statement.{statement}
-use Rattle.conformance.proofs.case.show_links.Tie as tie
+use Rattle.conformance.proofs.book.show_links.Statement.{statement}
+use Rattle.conformance.proofs.book.show_links.Tie as tie
 
 abbrev Inv-loop : tie.InvT-loop
 Inv-loop m count i₀ i = i ≤ 256

@@ -1,0 +1,16 @@
+// Repeats one job on one book, for measuring: a job byte (D decode, E encode, P plan), a number of repeats (4 bytes, low byte first), a book.
+// Prints one line from the last result.
+mod job;
+
+use libc::STDIN_FILENO;
+
+fn main() {
+    let mut head = [0u8; 5];
+    if io::read_full(STDIN_FILENO, &mut head) < 5 {
+        return;
+    }
+    let repeats = job::four(head[1], head[2], head[3], head[4]);
+    let mut space = [0u8; 2400];
+    let length = io::read_full(STDIN_FILENO, &mut space);
+    job::run(head[0], repeats, &space[..length]);
+}

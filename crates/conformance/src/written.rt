@@ -1,0 +1,28 @@
+// A mesh encoded.
+use crate::case::MOST_BYTES;
+use crate::print::answer;
+use crate::print::end;
+use crate::print::field;
+use crate::print::hex;
+use crate::print::word;
+use mesh::Mesh;
+
+// Encodes m into `room` bytes a5, and shows them afterwards.
+pub(crate) fn show_written(m: Mesh, room: usize) -> bool {
+    let mut space = [0xa5u8; MOST_BYTES];
+    write_into(m, &mut space, room)
+}
+
+fn write_into(m: Mesh, out: &mut [u8], room: usize) -> bool {
+    if out.len() < room {
+        return false;
+    }
+    let e = codec::encode(m, &mut out[0..room]);
+    let a = e.answer;
+    word(b"write");
+    answer(a);
+    field(b"length", e.length as u64);
+    end();
+    hex(b"out", &out[0..room]);
+    true
+}

@@ -1,0 +1,128 @@
+-- `search::all_ways` meets its contract. The loop's invariant: the rows have the ways of the links before k, which the two stores of a turn open for link k.
+use Prim.Native.Nat.{ℕ, _+_, _-_, _≤_, _<_}
+use mathlib.Core.Path.{_≡_, refl}
+use mathlib.Core.Logic.{_⊎_, inl, inr, ⊎-elim, Iff·symm, Iff·trans}
+use mathlib.Core.Bool.{true, false}
+use mathlib.Core.List.{List}
+use native.Mathlib.Omega.{arith}
+use native.Mathlib.Decide.{decLt}
+use lib.ListN.{replicate, length-replicate}
+use lib.Dec.{ltb}
+use borrow.Author.Needs.{needs}
+use borrow.Author.Tests.{ltb-true, lt-ltb}
+use Rattle.scan.specs.Test.{clash, Says}
+use Rattle.scan.specs.Entry.{replicate-at}
+use Rattle.scan.specs.Bits.{has-none}
+use Rattle.mesh.specs.declared.Mesh.{Mesh}
+use Rattle.mesh.specs.declared.Answer.the-variants.{Accepted}
+use Rattle.mesh.specs.Mesh.{meshAnswer}
+use Rattle.mesh.specs.WellFormed.{link}
+use Rattle.mesh.specs.Laws.Checked.{passes}
+use Rattle.graph.specs.Net.{Net, Ways, bothWays}
+use Rattle.planner.specs.Plan.{netOf}
+use Rattle.planner.specs.Rows.{put}
+use Rattle.planner.specs.Search.{Table}
+use Rattle.planner.specs.Laws.Fits.{fits}
+use Rattle.planner.specs.Laws.Tables.{opened-both, same-ways, put-way}
+use Rattle.planner.proofs.search.all_ways.Statement.{statement}
+use Rattle.planner.proofs.search.all_ways.Tie as tie
+
+-- the links before k, open both ways
+abbrev before : ℕ → Ways
+before k i d = ltb i k
+
+none-before : (G : Net) → Table G (before 0) (replicate 64 0)
+none-before G = record {
+  sized = length-replicate {A = ℕ} 64 0;
+  ways = λ u v. (λ e. clash e (rw (replicate-at {A = ℕ} 64 0 u) (has-none v)), λ a. absurd (omega (arith, ltb-true (a .link) 0 (a .free))));
+}
+
+before-next : (k i : ℕ) → Says (ltb i (k + 1)) ((ltb i k ≡ true) ⊎ (i ≡ k))
+before-next k i = (
+  λ e. let h = ltb-true i (k + 1) e in elim (decLt i k) [ yes l ↦ inl (lt-ltb i k l) | no n ↦ inr (omega arith) ],
+  ⊎-elim (λ e. lt-ltb i (k + 1) (omega (arith, ltb-true i k e))) (λ e. lt-ltb i (k + 1) (omega arith)),
+)
+
+module _ (m : Mesh) (ok : meshAnswer m ≡ Accepted) (k : ℕ) (h : k < m .count) where
+  ends-fit : (link m k .low < 64) × (link m k .high < 64)
+  ends-fit = let p = passes m ok in (omega (arith, p .nodes-most, p .low-below k h), omega (arith, p .nodes-most, p .high-below k h))
+
+  next-before : {t s x : List ℕ} → Table (netOf m) (before k) t → s ≡ put t (link m k .low) (link m k .high) → x ≡ put s (link m k .high) (link m k .low)
+      → Table (netOf m) (before (k + 1)) x
+  next-before T e f =
+      let F = fits m ok in
+      let n = passes m ok .nodes-most in
+      rw (f, e)
+      (same-ways (put-way (put-way T F n k h false) F n k h true) (before (k + 1))
+      (λ i d l. Iff·trans (before-next k i) (Iff·symm (opened-both k (before k) i d))))
+
+abbrev Inv-loop : tie.InvT-loop
+Inv-loop m count table₀ k₀ table k = (k ≤ count) × Table (netOf m) (before k) table
+
+abbrev μ-loop : tie.MeasureT-loop
+μ-loop m count table₀ k₀ table k = count - k
+
+cast-count : tie.Need-cast-count Inv-loop μ-loop
+cast-count c = search needs
+
+loop-holds : tie.Need-loop-holds Inv-loop μ-loop
+loop-holds c = (omega arith, none-before _)
+
+mul-l : tie.Need-mul-l Inv-loop μ-loop
+mul-l c =
+    let s = c .before .before in
+    omega (arith, passes (s .args .t1) (s .pre) .count-most)
+
+element-copy-out-l : tie.Need-element-copy-out-l Inv-loop μ-loop
+element-copy-out-l c =
+    let s = c .before .before in
+    omega (arith, passes (s .args .t1) (s .pre) .count-most)
+
+put-arc-requires : tie.Need-put-arc-requires Inv-loop μ-loop
+put-arc-requires c κs =
+    let turn = c .before .before in
+    let s = turn .before .before in
+    ends-fit (s .args .t1) (s .pre) (turn .before .loop .k) (turn .loop-test .taken)
+
+put-arc-requires-2 : tie.Need-put-arc-requires-2 Inv-loop μ-loop
+put-arc-requires-2 c κs =
+    let turn = c .before .before .before .before in
+    let s = turn .before .before in
+    let (low, high) = ends-fit (s .args .t1) (s .pre) (turn .before .loop .k) (turn .loop-test .taken) in
+    (high, low)
+
+add-k : tie.Need-add-k Inv-loop μ-loop
+add-k c = omega arith
+
+loop-less : tie.Need-loop-less Inv-loop μ-loop
+loop-less c = omega arith
+
+loop-again : tie.Need-loop-again Inv-loop μ-loop
+loop-again c =
+    let put = c .before .before in
+    let turn = put .before .before .before in
+    let s = turn .before .before in
+    let l = turn .before .loop in
+    (omega arith, next-before (s .args .t1) (s .pre) (l .k) (turn .loop-test .taken) (l .inv .1) (put .put-arc .ensures) (c .put-arc2 .ensures))
+
+returns : tie.Need-returns Inv-loop μ-loop
+returns c =
+    let l = c .before .loop in
+    same-ways (l .inv .1) bothWays (λ i d h. (λ _. lt-ltb i (l .k) (omega arith), λ _. refl))
+
+pub all-ways-spec : {M : Type 1} → statement M
+all-ways-spec =
+    tie.close
+    (tie.spec
+    Inv-loop
+    μ-loop
+    cast-count
+    loop-holds
+    mul-l
+    element-copy-out-l
+    put-arc-requires
+    put-arc-requires-2
+    add-k
+    loop-less
+    loop-again
+    returns)

@@ -1,0 +1,7 @@
+pub mod Edges
+pub mod Spreading
+pub mod Fits
+pub mod Tables
+pub mod Directing
+pub mod Outcome
+pub mod Meaning

@@ -1,0 +1,62 @@
+-- The net of a mesh that passes the checks: its links join its nodes, and since the pairs of ends rise no two ways have the same ends. Assumes nothing.
+use Prim.Native.Nat.{ℕ, _+_, _*_, _<_}
+use mathlib.Core.Path.{_≡_, refl}
+use mathlib.Core.Logic.{⊎-elim}
+use mathlib.Core.Bool.{Bool, true, false, not}
+use native.Mathlib.Omega.{arith}
+use native.Mathlib.Numerals.{add-one}
+use native.Mathlib.Decide.{decLt, le-ind}
+use Rattle.mesh.specs.declared.Mesh.{Mesh}
+use Rattle.mesh.specs.declared.Answer.the-variants.{Accepted}
+use Rattle.mesh.specs.Mesh.{meshAnswer}
+use Rattle.mesh.specs.WellFormed.{link, WellFormed}
+use Rattle.mesh.specs.Laws.Checked.{passes}
+use Rattle.graph.specs.Net.{Net, Fits, end}
+use Rattle.planner.specs.Plan.{netOf}
+
+pub fits : (m : Mesh) → meshAnswer m ≡ Accepted → Fits (netOf m)
+fits m ok = let p = passes m ok in record { some-node = omega (arith, p .nodes-least); low-below = p .low-below; high-below = p .high-below }
+
+pub well-formed-fits : {m : Mesh} → WellFormed m → Fits (netOf m)
+well-formed-fits W = record {
+  some-node = omega (arith, W .nodes-least);
+  low-below = λ i h. omega (arith, W .joins i h .apart, W .joins i h .inside);
+  high-below = λ i h. W .joins i h .inside;
+}
+
+-- ---- rising numbers
+
+module _ (f : ℕ → ℕ) (n : ℕ) (step : (i : ℕ) → i + 1 < n → f i < f (i + 1)) where
+  rising : (i j : ℕ) → i < j → j < n → f i < f j
+  rising i j h =
+      le-ind (λ j. j < n → f i < f j)
+      (λ l. rw (add-one i) at (step i (omega arith)))
+      (λ j _ g l. let s = rw (add-one j) at (step j (omega arith)) in omega (arith, g (omega arith)))
+      j h
+
+  rising-inj : (i j : ℕ) → i < n → j < n → f i ≡ f j → i ≡ j
+  rising-inj i j h l e = elim (decLt i j) [
+    | yes b ↦ absurd (omega (arith, rising i j b l))
+    | no b ↦ elim (decLt j i) [ yes c ↦ absurd (omega (arith, rising j i c h)) | no c ↦ omega arith ]
+  ]
+
+-- ---- no two ways have the same ends
+
+abbrev pub Simple : Net → Type 0
+Simple G = (i j : ℕ) (d e : Bool) → i < G .links → j < G .links → end G i d ≡ end G j e → end G i (not d) ≡ end G j (not e) → (i ≡ j) × (d ≡ e)
+
+module _ {m : Mesh} (W : WellFormed m) where
+  -- the pairs of ends as rising numbers
+  abbrev pair : ℕ → ℕ
+  pair i = link m i .low * 64 + link m i .high
+
+  pair-rises : (i : ℕ) → i + 1 < m .count → pair i < pair (i + 1)
+  pair-rises i h =
+      let below = W .joins i (omega arith) .inside in
+      ⊎-elim (λ l. omega (arith, W .nodes-most)) (λ (e, l). omega arith) (W .rises i h)
+
+  pub simple : Simple (netOf m)
+  simple i j false false h l s t = (rising-inj pair (m .count) pair-rises i j h l (omega arith), refl)
+  simple i j true true h l s t = (rising-inj pair (m .count) pair-rises i j h l (omega arith), refl)
+  simple i j false true h l s t = absurd (omega (arith, W .joins i h .apart, W .joins j l .apart))
+  simple i j true false h l s t = absurd (omega (arith, W .joins i h .apart, W .joins j l .apart))

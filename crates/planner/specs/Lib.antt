@@ -1,0 +1,5 @@
+pub mod Plan
+pub mod Rows
+pub mod Search
+pub mod Meaning
+pub mod Laws

@@ -1,0 +1,90 @@
+//! Does one job many times, so that its time can be measured from outside.
+
+use std::hint::black_box;
+
+use crate::book::{decode, encode};
+use crate::case::MOST_BYTES;
+use crate::mesh::Mesh;
+use crate::plan::{plan, Plan};
+use crate::reader::Reader;
+use crate::refusal::{in_words, Answer};
+
+pub const DECODE: u8 = b'D';
+pub const ENCODE: u8 = b'E';
+pub const PLAN: u8 = b'P';
+
+/// The bytes that `line` reads: job, number of repeats, book.
+pub fn input(job: u8, repeats: u32, book: &[u8]) -> Vec<u8> {
+    let mut input = vec![job];
+    input.extend(repeats.to_le_bytes());
+    input.extend(book);
+    input
+}
+
+/// The line of a bench input's last result; an error if the input is
+/// ill-formed. A refused book is not repeated.
+pub fn line(input: &[u8]) -> Result<String, String> {
+    let mut reader = Reader::new(input);
+    let job = reader.one().ok_or("no job")?;
+    let repeats = reader.four().ok_or("no number of repeats")?;
+    if repeats == 0 {
+        return Err("no repeat".to_string());
+    }
+    let book = &input[reader.at()..];
+    match decode(book) {
+        (mesh, Ok(())) => repeat(job, repeats, book, mesh),
+        (_, refused) => Ok(in_words(refused)),
+    }
+}
+
+fn repeat(job: u8, repeats: u32, book: &[u8], mesh: Mesh) -> Result<String, String> {
+    match job {
+        DECODE => Ok(format!("D {}", in_words(decode_often(repeats, book)))),
+        ENCODE => Ok(format!("E {}", encode_often(repeats, mesh))),
+        PLAN => {
+            let count = mesh.counted().len();
+            let (plan, answer) = plan_often(repeats, mesh);
+            let line = format!("P {} {}", in_words(answer), plan.digits(count));
+            Ok(line.trim_end().to_string())
+        }
+        _ => Err(format!("unknown job {job}")),
+    }
+}
+
+fn decode_often(repeats: u32, book: &[u8]) -> Answer {
+    let mut last = Ok(());
+    for _ in 0..repeats {
+        let (mesh, answer) = decode(black_box(book));
+        black_box(&mesh);
+        last = black_box(answer);
+    }
+    last
+}
+
+/// The length of the book, 0 if it is refused.
+fn encode_often(repeats: u32, mut mesh: Mesh) -> usize {
+    let mut output = vec![0; MOST_BYTES];
+    let mut last = 0;
+    for number in 0..repeats {
+        change_length(&mut mesh, number);
+        let written = encode(black_box(&mesh), black_box(&mut output));
+        last = black_box(written).unwrap_or(0);
+    }
+    last
+}
+
+fn plan_often(repeats: u32, mut mesh: Mesh) -> (Plan, Answer) {
+    let mut last = (Plan::ZERO, Ok(()));
+    for number in 0..repeats {
+        change_length(&mut mesh, number);
+        last = black_box(plan(black_box(&mesh)));
+    }
+    last
+}
+
+/// Gives link 0, if there is one, another length before each repeat.
+fn change_length(mesh: &mut Mesh, repeat: u32) {
+    if mesh.count > 0 {
+        mesh.links[0].length = (repeat % 65_535) as u16 + 1;
+    }
+}

@@ -1,0 +1,113 @@
+//! Two programs at the same job on the same book.
+
+use std::io;
+use std::time::Duration;
+
+use super::program::Program;
+use crate::bench::input;
+
+/// How often each run is made; the best time counts.
+const RUNS: usize = 7;
+
+/// How long a run should take.
+const AIM: Duration = Duration::from_millis(300);
+
+/// How long a trial must take to choose the number of repeats by it.
+const TRIAL: Duration = Duration::from_millis(50);
+
+/// How long a trial may last on the clock without taking that time itself.
+const LONGEST_TRIAL: Duration = Duration::from_secs(3);
+
+/// The microseconds of one call in each program; an error if they ever print
+/// different lines. The programs run by turns.
+pub fn contest(programs: [&Program; 2], job: u8, book: &[u8]) -> io::Result<[f64; 2]> {
+    let [first, second] = programs;
+    let mut runners = [
+        Runner::new(first, job, book)?,
+        Runner::new(second, job, book)?,
+    ];
+    for _ in 0..RUNS {
+        let [first, second] = &mut runners;
+        let texts = [first.round()?, second.round()?];
+        if texts[0] != texts[1] {
+            return Err(io::Error::other(format!("different lines: {texts:?}")));
+        }
+    }
+    Ok(runners.map(|runner| runner.microseconds()))
+}
+
+/// A program at one job, with its best times so far.
+struct Runner<'a> {
+    program: &'a Program,
+    one: Vec<u8>,
+    many: Vec<u8>,
+    repeats: u32,
+    best_of_one: Duration,
+    best_of_many: Duration,
+}
+
+impl<'a> Runner<'a> {
+    fn new(program: &'a Program, job: u8, book: &[u8]) -> io::Result<Runner<'a>> {
+        let repeats = enough_repeats(program, job, book)?;
+        Ok(Runner {
+            program,
+            one: input(job, 1, book),
+            many: input(job, repeats, book),
+            repeats,
+            best_of_one: Duration::MAX,
+            best_of_many: Duration::MAX,
+        })
+    }
+
+    /// A run with one repeat and a run with many; gives what both print.
+    fn round(&mut self) -> io::Result<[String; 2]> {
+        let one = self.program.run(&self.one)?;
+        let many = self.program.run(&self.many)?;
+        self.best_of_one = self.best_of_one.min(one.time);
+        self.best_of_many = self.best_of_many.min(many.time);
+        Ok([one.text, many.text])
+    }
+
+    /// The time of a run with one repeat, which is mostly the process's own,
+    /// is taken off.
+    fn microseconds(&self) -> f64 {
+        let time = self.best_of_many.saturating_sub(self.best_of_one);
+        time.as_secs_f64() * 1e6 / f64::from(self.repeats - 1)
+    }
+}
+
+/// The number of repeats, at least 2, that takes about as long as a run should.
+fn enough_repeats(program: &Program, job: u8, book: &[u8]) -> io::Result<u32> {
+    let time_of_one = program.run(&input(job, 1, book))?.time;
+    let mut repeats: u32 = 2;
+    loop {
+        let run = program.run(&input(job, repeats, book))?;
+        let time = run.time.saturating_sub(time_of_one);
+        if time >= TRIAL {
+            return Ok(scaled(repeats, time));
+        }
+        if run.clock > LONGEST_TRIAL || repeats > u32::MAX / 4 {
+            return Err(io::Error::other(
+                "repeats take no time of the program's own",
+            ));
+        }
+        repeats *= 4;
+    }
+}
+
+fn scaled(repeats: u32, time: Duration) -> u32 {
+    let scaled = f64::from(repeats) * AIM.as_secs_f64() / time.as_secs_f64();
+    (scaled as u32).max(2)
+}
+
+#[cfg(test)]
+mod tests {
+    use super::{scaled, Duration};
+
+    #[test]
+    fn scales_repeats_to_the_aim() {
+        assert_eq!(scaled(100, Duration::from_millis(60)), 500);
+        assert_eq!(scaled(2, Duration::from_secs(9)), 2);
+        assert_eq!(scaled(u32::MAX, Duration::from_millis(60)), u32::MAX);
+    }
+}

@@ -1,0 +1,65 @@
+//! The program's commands as they are run.
+
+use std::io::Write;
+use std::process::{Command, Output, Stdio};
+
+use reference::bench::input;
+
+const P1: [u8; 9] = [1, 3, 3, 0, 0, 2, 2, 1, 1];
+
+fn run(arguments: &[&str], input: &[u8]) -> Output {
+    let mut child = Command::new(env!("CARGO_BIN_EXE_reference"))
+        .args(arguments)
+        .stdin(Stdio::piped())
+        .stdout(Stdio::piped())
+        .stderr(Stdio::piped())
+        .spawn()
+        .unwrap();
+    child.stdin.take().unwrap().write_all(input).unwrap();
+    child.wait_with_output().unwrap()
+}
+
+fn assert_prints(job: u8, repeats: u32, book: &[u8], expected: &str) {
+    let output = run(&["bench"], &input(job, repeats, book));
+    assert!(output.status.success());
+    assert_eq!(String::from_utf8(output.stdout).unwrap(), expected);
+}
+
+#[test]
+fn bench_prints_the_last_result() {
+    for repeats in [1, 2, 70_000] {
+        assert_prints(b'D', repeats, &P1, "D accepted\n");
+        // Link 0 has a length in every repeat, so its record has 3 bytes.
+        assert_prints(b'E', repeats, &P1, "E 11\n");
+        assert_prints(b'P', repeats, &P1, "P accepted 010\n");
+    }
+}
+
+#[test]
+fn bench_prints_refusals() {
+    assert_prints(b'P', 3, &[1, 2, 1, 0, 0], "P refused 21 0 0\n");
+    assert_prints(b'P', 3, &[1, 2, 0, 0], "P refused 20 1\n");
+    assert_prints(b'E', 3, &[1, 2, 0, 0], "E 4\n");
+    for job in [b'D', b'E', b'P'] {
+        assert_prints(job, 3, &[1, 2, 0], "refused 1 3\n");
+    }
+}
+
+#[test]
+fn ill_formed_input_is_an_error() {
+    for wrong in [&b""[..], b"D", b"D\x01\0\0", b"X\x01\0\0\0\x01\x02\0\0"] {
+        let output = run(&["bench"], wrong);
+        assert!(!output.status.success());
+        assert!(output.stdout.is_empty());
+    }
+    assert!(!run(&["bench"], &input(b'D', 0, &P1)).status.success());
+    assert!(!run(&["expect"], b"X").status.success());
+    assert!(!run(&["corpus", "one"], b"").status.success());
+}
+
+#[test]
+fn expect_lists_a_planning() {
+    let output = run(&["expect"], b"P\x03\x03\0\0\x01\0\x02\x01\x02");
+    let expected = "planning 0 3 3\nplan accepted\ndirections 010\nrest 0\n";
+    assert_eq!(String::from_utf8(output.stdout).unwrap(), expected);
+}
