@@ -78,6 +78,7 @@ impl Arcs {
     }
 }
 
-fn nodes_of(link: &Link) -> (usize, usize) {
+/// The low and the high end, to index with.
+pub fn nodes_of(link: &Link) -> (usize, usize) {
     (link.low.into(), link.high.into())
 }

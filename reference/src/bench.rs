@@ -1,5 +1,7 @@
 //! Does one job many times, so that its time can be measured from outside.
 
+mod sessions;
+
 use std::hint::black_box;
 
 use crate::book::{decode, encode};
@@ -8,10 +10,19 @@ use crate::mesh::Mesh;
 use crate::plan::{plan, Plan};
 use crate::reader::Reader;
 use crate::refusal::{in_words, Answer};
+use crate::two_pass_plan;
 
 pub const DECODE: u8 = b'D';
 pub const ENCODE: u8 = b'E';
 pub const PLAN: u8 = b'P';
+/// Planning by the plain planner; prints what `PLAN` prints.
+pub const PLAN_IN_TWO_PASSES: u8 = b'T';
+pub const RUN: u8 = b'R';
+pub const DELIVER: u8 = b'L';
+pub const STATUS: u8 = b'U';
+
+/// A planner: gives the plan of a mesh.
+type Planner = fn(&Mesh) -> (Plan, Answer);
 
 /// The bytes that `line` reads: job, number of repeats, book.
 pub fn input(job: u8, repeats: u32, book: &[u8]) -> Vec<u8> {
@@ -41,12 +52,11 @@ fn repeat(job: u8, repeats: u32, book: &[u8], mesh: Mesh) -> Result<String, Stri
     match job {
         DECODE => Ok(format!("D {}", in_words(decode_often(repeats, book)))),
         ENCODE => Ok(format!("E {}", encode_often(repeats, mesh))),
-        PLAN => {
-            let count = mesh.counted().len();
-            let (plan, answer) = plan_often(repeats, mesh);
-            let line = format!("P {} {}", in_words(answer), plan.digits(count));
-            Ok(line.trim_end().to_string())
-        }
+        PLAN => Ok(plan_line(repeats, mesh, plan)),
+        PLAN_IN_TWO_PASSES => Ok(plan_line(repeats, mesh, two_pass_plan::plan)),
+        RUN => Ok(sessions::run_line(repeats, &mesh)),
+        DELIVER => Ok(sessions::delivery_line(repeats, &mesh)),
+        STATUS => Ok(sessions::status_line(repeats, &mesh)),
         _ => Err(format!("unknown job {job}")),
     }
 }
@@ -73,11 +83,18 @@ fn encode_often(repeats: u32, mut mesh: Mesh) -> usize {
     last
 }
 
-fn plan_often(repeats: u32, mut mesh: Mesh) -> (Plan, Answer) {
+fn plan_line(repeats: u32, mesh: Mesh, planner: Planner) -> String {
+    let count = mesh.counted().len();
+    let (plan, answer) = plan_often(repeats, mesh, planner);
+    let line = format!("P {} {}", in_words(answer), plan.digits(count));
+    line.trim_end().to_string()
+}
+
+fn plan_often(repeats: u32, mut mesh: Mesh, planner: Planner) -> (Plan, Answer) {
     let mut last = (Plan::ZERO, Ok(()));
     for number in 0..repeats {
         change_length(&mut mesh, number);
-        last = black_box(plan(black_box(&mesh)));
+        last = black_box(planner(black_box(&mesh)));
     }
     last
 }

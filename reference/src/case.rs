@@ -2,10 +2,12 @@
 
 use crate::mesh::{Link, Mesh};
 use crate::reader::Reader;
+use crate::script::{read_script, write_script, Script};
 
 const BOOK: u8 = b'B';
 const MESH: u8 = b'M';
 const PLANNING: u8 = b'P';
+const SCRIPT: u8 = b'S';
 
 /// The greatest room of a case and the greatest length of its book.
 pub const MOST_BYTES: usize = 2_400;
@@ -19,6 +21,8 @@ pub enum Case {
     /// A mesh to plan: at most 256 links without lengths and fibre pairs, and
     /// zeros past them.
     Planning { mesh: Box<Mesh> },
+    /// Calls on a session.
+    Script(Script),
 }
 
 /// The bytes of a corpus, one case after the other.
@@ -29,6 +33,10 @@ pub fn write_cases(cases: &[Case]) -> Vec<u8> {
             Case::Book { room, link, book } => write_book(*room, *link, book, &mut output),
             Case::Mesh { room, mesh } => write_mesh(*room, mesh, &mut output),
             Case::Planning { mesh } => write_planning(mesh, &mut output),
+            Case::Script(script) => {
+                output.push(SCRIPT);
+                write_script(script, &mut output);
+            }
         }
     }
     output
@@ -84,6 +92,7 @@ fn read_case(reader: &mut Reader) -> Option<Case> {
         BOOK => read_book(reader),
         MESH => read_mesh(reader),
         PLANNING => read_planning(reader),
+        SCRIPT => read_script(reader).map(Case::Script),
         _ => None,
     }
 }

@@ -14,6 +14,7 @@ pub mod parted_graphs;
 pub mod planning;
 pub mod questions;
 pub mod random_graphs;
+pub mod scripts;
 pub mod shapes;
 pub mod truncated;
 pub mod wrong_meshes;
@@ -24,7 +25,8 @@ use crate::book::bytes_of;
 use crate::case::Case;
 use crate::random::Random;
 
-/// All cases of the corpus: books first, then mesh records, then plannings.
+/// All cases of the corpus: books first, then mesh records, then plannings,
+/// then scripts.
 pub fn make(seed: u64) -> Vec<Case> {
     let mut random = Random::new(seed);
     let books = all_books(&mut random);
@@ -35,6 +37,7 @@ pub fn make(seed: u64) -> Vec<Case> {
     cases.extend(questions::every_question(&mut random));
     cases.extend(mesh_records::cases(&mut random));
     cases.extend(planning::cases(&mut random));
+    cases.extend(scripts::cases(&mut random));
     cases
 }
 

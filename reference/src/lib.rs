@@ -1,5 +1,5 @@
-//! Second implementation of the mesh book and the plan, and the corpus that
-//! compares implementations.
+//! Second implementation of the mesh book, the plan and the recovery machine,
+//! and the corpus that compares implementations.
 
 pub mod arcs;
 pub mod bench;
@@ -8,6 +8,7 @@ pub mod case;
 pub mod corpus;
 pub mod listing;
 pub mod mesh;
+pub mod meshplan;
 pub mod node_set;
 pub mod plain_plan;
 pub mod plan;
@@ -15,6 +16,9 @@ pub mod random;
 pub mod reader;
 pub mod record;
 pub mod refusal;
+pub mod script;
+pub mod session;
 pub mod timing;
 pub mod tree;
+pub mod two_pass_plan;
 pub mod walks;

@@ -1,5 +1,7 @@
 //! The expected listing of a corpus.
 
+pub mod scripts;
+
 use crate::book::{decode, encode, record};
 use crate::case::Case;
 use crate::mesh::{Link, Mesh};
@@ -18,6 +20,7 @@ pub fn listing(cases: &[Case]) -> Result<String, String> {
             Case::Book { room, link, book } => lines.book(number, *room, *link, book),
             Case::Mesh { room, mesh } => lines.mesh_record(number, *room, mesh),
             Case::Planning { mesh } => lines.planning(number, mesh)?,
+            Case::Script(script) => lines.script(number, script),
         }
     }
     Ok(lines.text)

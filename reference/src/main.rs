@@ -1,7 +1,8 @@
 //! `reference corpus SEED` writes a corpus; `reference expect` reads a corpus
-//! and writes its listing; `reference bench` repeats a job on a book;
-//! `reference time PROGRAM` measures a program with the same input and output
-//! as `reference bench` against it.
+//! and writes its listing; `reference meshplan` reads a book and lists its
+//! mesh, its plan and every cut; `reference bench` repeats a job on a book;
+//! `reference time BENCH MESHPLAN` measures two programs with the same input
+//! and output as `reference bench` and `reference meshplan` against these.
 
 use std::io::{self, Read, Write};
 use std::process::ExitCode;
@@ -9,7 +10,7 @@ use std::process::ExitCode;
 use reference::case::{read_cases, write_cases};
 use reference::timing::program::Program;
 use reference::timing::write_table;
-use reference::{bench, corpus, listing};
+use reference::{bench, corpus, listing, meshplan};
 
 fn main() -> ExitCode {
     let arguments: Vec<String> = std::env::args().skip(1).collect();
@@ -17,16 +18,17 @@ fn main() -> ExitCode {
     match words[..] {
         ["corpus", seed] => seed.parse().map_or_else(|_| usage(), write_corpus),
         ["expect"] => finish(write_listing()),
+        ["meshplan"] => finish(write_meshplan()),
         ["bench"] => finish(write_bench_line()),
-        ["time", program] => finish(write_times(program)),
+        ["time", bench, meshplan] => finish(write_times(bench, meshplan)),
         _ => usage(),
     }
 }
 
 fn usage() -> ExitCode {
     eprintln!(
-        "usage: reference corpus SEED | reference expect | reference bench | \
-         reference time PROGRAM"
+        "usage: reference corpus SEED | reference expect | reference meshplan | \
+         reference bench | reference time BENCH MESHPLAN"
     );
     ExitCode::from(2)
 }
@@ -42,15 +44,22 @@ fn write_listing() -> io::Result<()> {
     io::stdout().write_all(listing.as_bytes())
 }
 
+fn write_meshplan() -> io::Result<()> {
+    let listing = meshplan::listing(&read_input()?);
+    io::stdout().write_all(listing.as_bytes())
+}
+
 fn write_bench_line() -> io::Result<()> {
     let line = bench::line(&read_input()?).map_err(io::Error::other)?;
     writeln!(io::stdout(), "{line}")
 }
 
-fn write_times(program: &str) -> io::Result<()> {
-    let measured = Program::new(program, &[]);
-    let bench = Program::new(std::env::current_exe()?, &["bench"]);
-    write_table(&measured, &bench, &mut io::stdout())
+fn write_times(bench: &str, meshplan: &str) -> io::Result<()> {
+    let own =
+        |command| Ok::<Program, io::Error>(Program::new(std::env::current_exe()?, &[command]));
+    let benches = [&Program::new(bench, &[]), &own("bench")?];
+    let meshplans = [&Program::new(meshplan, &[]), &own("meshplan")?];
+    write_table(benches, meshplans, &mut io::stdout())
 }
 
 fn read_input() -> io::Result<Vec<u8>> {

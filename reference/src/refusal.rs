@@ -19,6 +19,11 @@ pub enum Reason {
     IllFormed = 13,
     NoPath = 20,
     RemovalParts = 21,
+    CutStands = 22,
+    NoCut = 23,
+    NotUnderWay = 24,
+    NotAtRest = 25,
+    NotTheCut = 26,
 }
 
 #[derive(Clone, Copy, Debug, PartialEq, Eq)]

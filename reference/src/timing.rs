@@ -6,26 +6,48 @@ pub mod program;
 
 use std::io::{self, Write};
 
-use crate::bench::{DECODE, ENCODE, PLAN};
+use crate::bench::{DECODE, DELIVER, ENCODE, PLAN, PLAN_IN_TWO_PASSES, RUN, STATUS};
 use crate::book::bytes_of;
-use contest::contest;
+use contest::{contest, whole};
 use meshes::{subjects, Subject};
 use program::Program;
 
-/// Writes a Markdown table, a row for each job and mesh as it is measured.
-pub fn write_table(measured: &Program, bench: &Program, output: &mut impl Write) -> io::Result<()> {
+/// The name of each row, and the jobs of the measured program and of the bench.
+const ROWS: [(&str, [u8; 2]); 7] = [
+    ("decode", [DECODE; 2]),
+    ("encode", [ENCODE; 2]),
+    ("plan", [PLAN; 2]),
+    ("plan, against two passes", [PLAN, PLAN_IN_TWO_PASSES]),
+    ("run to rest", [RUN; 2]),
+    ("delivery by value", [DELIVER; 2]),
+    ("status", [STATUS; 2]),
+];
+
+/// Writes a Markdown table, a row for each job and mesh as it is measured:
+/// first the repeated jobs of two bench programs, then whole runs of two
+/// meshplan programs.
+pub fn write_table(
+    benches: [&Program; 2],
+    meshplans: [&Program; 2],
+    output: &mut impl Write,
+) -> io::Result<()> {
     writeln!(
         output,
         "| job | mesh | program, microseconds a call | reference, microseconds a call | ratio |\n\
          |---|---|--:|--:|--:|"
     )?;
-    for (name, job) in [("decode", DECODE), ("encode", ENCODE), ("plan", PLAN)] {
+    for (name, jobs) in ROWS {
         for subject in subjects() {
-            let book = book_for(job, &subject);
-            let times = contest([measured, bench], job, &book);
+            let book = book_for(jobs[0], &subject);
+            let times = contest(benches, jobs, &book);
             let [ours, theirs] = times.map_err(|error| named(name, &subject, &error))?;
             writeln!(output, "{}", row(name, subject.name, ours, theirs))?;
         }
+    }
+    for subject in subjects() {
+        let times = whole(meshplans, &bytes_of(&subject.filled()));
+        let [ours, theirs] = times.map_err(|error| named("meshplan", &subject, &error))?;
+        writeln!(output, "{}", row("meshplan", subject.name, ours, theirs))?;
     }
     Ok(())
 }

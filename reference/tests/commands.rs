@@ -6,6 +6,7 @@ use std::process::{Command, Output, Stdio};
 use reference::bench::input;
 
 const P1: [u8; 9] = [1, 3, 3, 0, 0, 2, 2, 1, 1];
+const P5: [u8; 13] = [1, 4, 5, 0, 0, 2, 2, 2, 3, 1, 1, 1, 2];
 
 fn run(arguments: &[&str], input: &[u8]) -> Output {
     let mut child = Command::new(env!("CARGO_BIN_EXE_reference"))
@@ -32,6 +33,10 @@ fn bench_prints_the_last_result() {
         // Link 0 has a length in every repeat, so its record has 3 bytes.
         assert_prints(b'E', repeats, &P1, "E 11\n");
         assert_prints(b'P', repeats, &P1, "P accepted 010\n");
+        assert_prints(b'T', repeats, &P1, "P accepted 010\n");
+        assert_prints(b'R', repeats, &P5, "R 6\n");
+        assert_prints(b'L', repeats, &P5, "L taken 0\n");
+        assert_prints(b'U', repeats, &P5, "U 0 2 0\n");
     }
 }
 
@@ -39,8 +44,12 @@ fn bench_prints_the_last_result() {
 fn bench_prints_refusals() {
     assert_prints(b'P', 3, &[1, 2, 1, 0, 0], "P refused 21 0 0\n");
     assert_prints(b'P', 3, &[1, 2, 0, 0], "P refused 20 1\n");
+    assert_prints(b'T', 3, &[1, 2, 0, 0], "P refused 20 1\n");
+    assert_prints(b'R', 3, &[1, 2, 0, 0], "R refused 20 1\n");
+    assert_prints(b'L', 3, &[1, 2, 1, 0, 0], "L refused 21 0\n");
+    assert_prints(b'U', 3, &[1, 2, 1, 0, 0], "U refused 21 0\n");
     assert_prints(b'E', 3, &[1, 2, 0, 0], "E 4\n");
-    for job in [b'D', b'E', b'P'] {
+    for job in *b"DEPTRLU" {
         assert_prints(job, 3, &[1, 2, 0], "refused 1 3\n");
     }
 }
@@ -55,6 +64,18 @@ fn ill_formed_input_is_an_error() {
     assert!(!run(&["bench"], &input(b'D', 0, &P1)).status.success());
     assert!(!run(&["expect"], b"X").status.success());
     assert!(!run(&["corpus", "one"], b"").status.success());
+}
+
+#[test]
+fn meshplan_reads_all_of_its_input() {
+    let expected = "mesh 3 3\nlink 0 0 1 0\nlink 1 0 2 1\nlink 2 1 2 0\n\
+        cut 0 0 1 2 1 2\ncut 1 2 0 2 2 0\ncut 2 1 2 2 0 1\n";
+    let printed = |book: &[u8]| String::from_utf8(run(&["meshplan"], book).stdout).unwrap();
+    assert_eq!(printed(&P1), expected);
+    let long = [&P1[..], &[7; 1_000_000]].concat();
+    assert_eq!(printed(&long), "refused 10 9\n");
+    assert_eq!(printed(&[]), "refused 1 0\n");
+    assert_eq!(printed(&[1, 2, 1, 0, 0]), "refused 21 0\n");
 }
 
 #[test]

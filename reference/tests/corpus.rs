@@ -3,8 +3,9 @@
 use std::collections::BTreeSet;
 
 use reference::case::{read_cases, write_cases, Case, MOST_BYTES};
-use reference::corpus;
+use reference::corpus::{self, scripts};
 use reference::listing::listing;
+use reference::random::Random;
 
 const SEEDS: [u64; 4] = [0, 1, 2, u64::MAX];
 
@@ -20,14 +21,15 @@ fn listed(cases: &[Case]) -> String {
     listing(cases).expect("both methods of planning agree")
 }
 
-/// The number of cases of each kind: books, mesh records, plannings.
-fn counts(cases: &[Case]) -> [usize; 3] {
-    let mut counts = [0; 3];
+/// The number of cases of each kind: books, mesh records, plannings, scripts.
+fn counts(cases: &[Case]) -> [usize; 4] {
+    let mut counts = [0; 4];
     for case in cases {
         counts[match case {
             Case::Book { .. } => 0,
             Case::Mesh { .. } => 1,
             Case::Planning { .. } => 2,
+            Case::Script(_) => 3,
         }] += 1;
     }
     counts
@@ -54,28 +56,46 @@ fn an_ill_formed_corpus_is_an_error() {
     assert!(read_cases(b"X").is_err());
     let with_257_links = [&[b'P', 64, 1, 1][..], &[0; 2 * 257]].concat();
     assert!(read_cases(&with_257_links).is_err());
+    let script = |book: &[u8], rest: &[u8]| {
+        let length = book.len() as u8;
+        read_cases(&[&[b'S', length, 0], book, rest].concat())
+    };
+    assert!(script(&[1, 2, 0, 0], &[0, 0, 0]).is_ok());
+    assert!(script(&[1, 1, 0, 0], &[0, 0, 0]).is_err());
+    assert!(script(&[1, 2, 0, 0], &[3, 0, 0]).is_err());
+    let node = |node| [2, 0, 0, 255, 255, 0, 0, 1, node, 0, 2, 0, 0, 0, 0];
+    assert!(script(&[1, 2, 0, 0], &node(63)).is_ok());
+    assert!(script(&[1, 2, 0, 0], &node(64)).is_err());
+    let with_257_directions = [&[1, 1, 1][..], &[0; 257 + 2]].concat();
+    assert!(script(&[1, 2, 0, 0], &with_257_directions).is_err());
 }
 
 #[test]
 fn counts_and_sizes() {
     for seed in SEEDS {
         let cases = corpus::make(seed);
-        let [books, mesh_records, plannings] = counts(&cases);
+        let [books, mesh_records, plannings, scripts] = counts(&cases);
         assert!(books >= 2_400);
         assert!(mesh_records >= 300);
         assert!(plannings >= 1_200);
+        assert!(scripts >= 1_100);
         assert!(write_cases(&cases).len() < 1_200_000);
         assert!(listed(&cases).len() < 3_000_000);
     }
 }
 
 #[test]
-fn plannings_come_last_and_are_small() {
+fn plannings_and_scripts_come_last_and_are_small() {
     for seed in SEEDS {
         let cases = corpus::make(seed);
-        let plannings = &cases[cases.len() - counts(&cases)[2]..];
+        let [_, _, plannings, scripts] = counts(&cases);
+        let (rest, scripts) = cases.split_at(cases.len() - scripts);
+        let plannings = &rest[rest.len() - plannings..];
         assert_eq!(counts(plannings)[2], plannings.len());
         assert!(write_cases(plannings).len() < 350_000);
+        assert_eq!(counts(scripts)[3], scripts.len());
+        assert!(write_cases(scripts).len() < 400_000);
+        assert!(listed(scripts).len() < 900_000);
     }
 }
 
@@ -87,6 +107,7 @@ fn rooms_and_books_are_within_the_limit() {
                 Case::Book { room, book, .. } => (room, book.len()),
                 Case::Mesh { room, .. } => (room, 0),
                 Case::Planning { .. } => (0, 0),
+                Case::Script(script) => (0, script.book.len()),
             };
             assert!(usize::from(room) <= MOST_BYTES);
             assert!(length <= MOST_BYTES);
@@ -115,6 +136,40 @@ fn every_refusal_is_met() {
         assert!(count("plan accepted") >= 700);
         assert!(count("plan refused 20 ") >= 200);
         assert!(count("plan refused 21 ") >= 300);
+    }
+}
+
+/// The refusal numbers on the lines of one kind of call, whose argument, if it
+/// has one, stands before the answer.
+fn script_refusals(scripts: &str, word: &str) -> BTreeSet<u8> {
+    let words = scripts.lines().map(|line| line.split(' ').collect());
+    let numbers = words.filter_map(|words: Vec<&str>| match words[..] {
+        [call, "refused", number, _] | [call, _, "refused", number, _] if call == word => {
+            Some(number.parse().unwrap())
+        }
+        _ => None,
+    });
+    numbers.collect()
+}
+
+#[test]
+fn every_refusal_of_a_session_is_met() {
+    let record = [3, 4, 6, 7, 8, 13];
+    let calls: [(&str, &[u8]); 6] = [
+        ("cut", &[12, 22]),
+        ("deliver", &[12, 23, 24]),
+        ("mend", &[12, 23, 25, 26]),
+        ("status", &[12]),
+        ("run", &[23]),
+        ("route", &[23]),
+    ];
+    for seed in SEEDS {
+        let text = listed(&scripts::cases(&mut Random::new(seed)));
+        for (word, own) in calls {
+            let expected = record.iter().chain(own).copied().collect();
+            assert_eq!(script_refusals(&text, word), expected, "{word}");
+        }
+        assert_eq!(script_refusals(&text, "start"), BTreeSet::from([13]));
     }
 }
 

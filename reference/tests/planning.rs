@@ -8,6 +8,7 @@ use reference::mesh::Mesh;
 use reference::plain_plan::{checked_plan, first_of_all, FEW_LINKS};
 use reference::plan::{plan, Plan};
 use reference::random::Random;
+use reference::two_pass_plan;
 
 /// Whether planning accepts the mesh; the definition must agree.
 fn is_accepted(mesh: &Mesh) -> bool {
@@ -59,6 +60,7 @@ fn every_planning_of_the_corpus() {
         for case in corpus::make(seed) {
             if let Case::Planning { mesh } = case {
                 is_accepted(&mesh);
+                assert_eq!(two_pass_plan::plan(&mesh), plan(&mesh));
             }
         }
     }

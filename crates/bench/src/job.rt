@@ -1,4 +1,5 @@
 // The jobs.
+use crate::sessions;
 use codec::Decoded;
 use libc::STDOUT_FILENO;
 use mesh::Answer;
@@ -27,12 +28,15 @@ pub(crate) fn run(job: u8, repeats: u32, book: &[u8]) {
         b'D' => decode_job(book, repeats),
         b'E' => encode_job(m, repeats),
         b'P' => plan_job(m, repeats),
+        b'R' => sessions::run_job(m, repeats),
+        b'L' => sessions::deliver_job(m, repeats),
+        b'U' => sessions::status_job(m, repeats),
         _ => {}
     }
     io::write_all(STDOUT_FILENO, b"\n");
 }
 
-fn print_answer(a: Answer) {
+pub(crate) fn print_answer(a: Answer) {
     match a {
         Answer::Accepted => {
             io::write_all(STDOUT_FILENO, b"accepted");

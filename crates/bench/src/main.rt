@@ -1,6 +1,8 @@
-// Repeats one job on one book, for measuring: a job byte (D decode, E encode, P plan), a number of repeats (4 bytes, low byte first), a book.
+// Repeats one job on one book, for measuring: a job byte (D decode, E encode, P plan, R run to rest, L one delivery, U one status), a number of
+// repeats (4 bytes, low byte first), a book.
 // Prints one line from the last result.
 mod job;
+mod sessions;
 
 use libc::STDIN_FILENO;
 

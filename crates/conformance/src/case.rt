@@ -1,7 +1,8 @@
-// One case of the corpus: a book, a mesh record, or a mesh to plan.
+// One case of the corpus: a book, a mesh record, a mesh to plan, or a script.
 use crate::book::run_book;
 use crate::planning::run_planning;
 use crate::record::run_mesh;
+use crate::script::run_script;
 use libc::STDIN_FILENO;
 use mesh::Link;
 use mesh::Mesh;
@@ -32,6 +33,9 @@ pub(crate) fn run_case(case: u64) -> bool {
     }
     if kind[0] == b'P' {
         return run_planning(case);
+    }
+    if kind[0] == b'S' {
+        return run_script(case);
     }
     false
 }

@@ -1,9 +1,12 @@
 // Reads the corpus from standard input and prints what the library answers to each case (docs/CORPUS.md).
 mod book;
 mod case;
+mod input;
 mod planning;
 mod print;
 mod record;
+mod script;
+mod session;
 mod written;
 
 // The most cases that are read, so that the loop ends whatever the input holds.

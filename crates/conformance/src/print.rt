@@ -27,15 +27,18 @@ pub(crate) fn field(text: &[u8], n: u64) {
     number(n);
 }
 
+// A refusal's number and place.
+pub(crate) fn refused(n: u8, place: usize) {
+    word(b" refused");
+    number(n as u64);
+    number(place as u64);
+}
+
 // The end of a line: an answer.
 pub(crate) fn answer(a: Answer) {
     match a {
         Answer::Accepted => word(b" accepted"),
-        Answer::Refused { number: n, place } => {
-            word(b" refused");
-            number(n as u64);
-            number(place as u64);
-        }
+        Answer::Refused { number: n, place } => refused(n, place),
     }
     end();
 }

@@ -1,5 +1,9 @@
 -- 01's bench examples marked P, as rows of one table. Definitions only; the theorem over the table is `bench` of Main.
-use Prim.Native.Nat.{ℕ, _-_}
+use Prim.Native.Nat.{ℕ, zero, suc, _-_}
+use mathlib.Core.Bool.{Bool, cond}
+use lib.Dec.{eqb}
+use Rattle.scan.specs.Entry.{at}
+use mathlib.Core.Path.{_≡_}
 use mathlib.Core.List.{List, [], _∷_, _++_}
 use lib.ListN.{length, replicate}
 use Rattle.mesh.specs.declared.Link.{Link}
@@ -7,7 +11,13 @@ use Rattle.mesh.specs.declared.Answer.the-variants.{Accepted, Refused}
 use Rattle.mesh.specs.Mesh.{zeroLink, zeroMesh}
 use Rattle.codec.specs.declared.Decoded.{Decoded}
 use Rattle.planner.specs.declared.Planned.{Planned}
-use Rattle.planner.specs.Plan.{padded, zeroPlan}
+use Rattle.codec.specs.Book.{decoded}
+use Rattle.planner.specs.Plan.{padded, zeroPlan, planned}
+use Rattle.flood.specs.Machine.{order}
+use Rattle.recovery.specs.declared.Session.{Session}
+use Rattle.recovery.specs.Calls.{digraph, failure, afterDelivery}
+use Rattle.recovery.specs.History.{Call, cut, deliver, run, mend, status, next, after, accepted}
+use Rattle.recovery.specs.Demand.{startedOn}
 
 -- a link with these ends, not measured and with no fibre pair
 abbrev pub ends : ℕ → ℕ → Link
@@ -32,18 +42,51 @@ plans p = record { plan = padded p; answer = Accepted }
 abbrev pub unplanned : ℕ → ℕ → Planned
 unplanned number place = record { plan = zeroPlan; answer = Refused number place }
 
--- a book, what reading it gives, and what planning the mesh that was read gives; a refused read gives the all-zero mesh, which planning refuses
--- with 3 at 0
+-- the links on which a call makes deliveries, in turn
+abbrev pub turnsOf : Call → Session → List ℕ
+turnsOf (cut k) s = []
+turnsOf (deliver k) s = cond (accepted (afterDelivery s k .answer)) (k ∷ []) []
+turnsOf (run n) s = order (digraph s) (failure s) n (s .flood)
+turnsOf (mend k) s = []
+turnsOf (status k) s = []
+
+unfoldable pub turns : List Call → Session → List ℕ
+turns [] s = []
+turns (c ∷ cs) s = turnsOf c s ++ turns cs (next c s)
+
+-- the numbers below n that pass, rising
+unfoldable pub passing : (ℕ → Bool) → ℕ → List ℕ
+passing p zero = []
+passing p (suc n) = passing p n ++ cond (p n) (n ∷ []) []
+
+-- the taken links
+abbrev pub takenIn : Session → List ℕ
+takenIn s = passing (λ i. eqb (at (s .flood .states) i) 2) (s .mesh .count)
+
+-- a book; what reading it gives; what planning the mesh that was read gives (a refused read gives the all-zero mesh, which planning refuses with
+-- 3 at 0); calls on a session that is started on that mesh and plan, the links on which they make deliveries, in turn, and the links taken at the end
 pub record Row : Type 0 where
   pub book : List ℕ
   pub reading : Decoded
   pub planning : Planned
+  pub calls : List Call
+  pub delivered : List ℕ
+  pub taken : List ℕ
 
+-- a row with no calls
 abbrev row : List ℕ → Decoded → Planned → Row
-row book reading planning = record { book = book; reading = reading; planning = planning }
+row book reading planning = record { book = book; reading = reading; planning = planning; calls = []; delivered = []; taken = [] }
+
+-- a row with calls
+abbrev under : Row → List Call → List ℕ → List ℕ → Row
+under r calls delivered taken =
+    record { book = r .book; reading = r .reading; planning = r .planning; calls = calls; delivered = delivered; taken = taken }
 
 abbrev p1 : Row
 p1 = row (1 ∷ 3 ∷ 3 ∷ 0 ∷ 0 ∷ 2 ∷ 2 ∷ 1 ∷ 1 ∷ []) (reads 3 (ends 0 1 ∷ ends 0 2 ∷ ends 1 2 ∷ [])) (plans (0 ∷ 1 ∷ 0 ∷ []))
+
+abbrev p2 : Row
+p2 = under p1 (cut 0 ∷ deliver 1 ∷ deliver 2 ∷ []) (1 ∷ 2 ∷ []) (1 ∷ 2 ∷ [])
 
 abbrev p3 : Row
 p3 = row (1 ∷ 2 ∷ 1 ∷ 0 ∷ 0 ∷ []) (reads 2 (ends 0 1 ∷ [])) (unplanned 21 0)
@@ -57,6 +100,12 @@ p5 =
     (reads 4 (ends 0 1 ∷ ends 0 2 ∷ ends 0 3 ∷ ends 1 2 ∷ ends 2 3 ∷ []))
     (plans (0 ∷ 0 ∷ 1 ∷ 0 ∷ 0 ∷ []))
 
+abbrev p6 : Row
+p6 = under p5 (cut 4 ∷ run 4294967295 ∷ []) (1 ∷ 2 ∷ 3 ∷ 0 ∷ 0 ∷ 3 ∷ []) (1 ∷ 2 ∷ [])
+
+abbrev p7 : Row
+p7 = under p5 (cut 4 ∷ deliver 3 ∷ deliver 0 ∷ deliver 2 ∷ deliver 1 ∷ deliver 1 ∷ []) (3 ∷ 0 ∷ 2 ∷ 1 ∷ 1 ∷ []) (0 ∷ 2 ∷ 3 ∷ [])
+
 abbrev p8 : Row
 p8 = row (1 ∷ 2 ∷ 1 ∷ 0 ∷ 2 ∷ 1 ∷ []) (refuses 9 4) (unplanned 3 0)
 
@@ -67,4 +116,11 @@ abbrev p10 : Row
 p10 = row [] (refuses 1 0) (unplanned 3 0)
 
 abbrev pub table : List Row
-table = p1 ∷ p3 ∷ p4 ∷ p5 ∷ p8 ∷ p9 ∷ p10 ∷ []
+table = p1 ∷ p2 ∷ p3 ∷ p4 ∷ p5 ∷ p6 ∷ p7 ∷ p8 ∷ p9 ∷ p10 ∷ []
+
+-- the row holds of the definitions that the contracts cite
+pub record Holds (r : Row) : Type 0 where
+  pub reads : decoded (r .book) ≡ r .reading
+  pub plans : planned (decoded (r .book) .mesh) ≡ r .planning
+  pub delivers : turns (r .calls) (startedOn (decoded (r .book) .mesh)) ≡ r .delivered
+  pub takes : takenIn (after (r .calls) (startedOn (decoded (r .book) .mesh))) ≡ r .taken

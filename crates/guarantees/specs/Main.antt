@@ -21,7 +21,13 @@ use Rattle.graph.specs.Laws.First.{first-unique}
 use Rattle.planner.specs.Plan.{netOf, planned}
 use Rattle.planner.specs.Meaning.{NoPath, LinkParts, FirstPlan}
 use Rattle.planner.specs.Laws.Meaning.{plan-refuses, plan-first, plan-numbers}
-use Rattle.guarantees.specs.Bench.{Row, table}
+use Rattle.recovery.specs.declared.Cut.the-variants.{Link}
+use Rattle.recovery.specs.Calls.{digraph, routeOf}
+use Rattle.recovery.specs.History.{Call}
+use Rattle.recovery.specs.Demand.{Demand3, AtRest, OnePath, ended, log}
+use Rattle.recovery.specs.Laws.Recovered.{demand-3}
+use Rattle.recovery.specs.Laws.Routed.{demand-route}
+use Rattle.guarantees.specs.Bench.{Row, table, Holds}
 use Rattle.guarantees.specs.Laws.Computed.{row-holds}
 
 -- ---- the mesh checks (contract: crates/mesh/src/lib.rt, `check`)
@@ -88,8 +94,22 @@ plan-places = plan-numbers
 pub plan-unique : (m : Mesh) (p q : List ℕ) → First (netOf m) p → First (netOf m) q → p ≡ q
 plan-unique m = first-unique
 
+-- ---- demand 3, over every list of calls (contracts: crates/recovery/src/lib.rt, the calls of `Session`)
+
+-- after any list of calls, refused ones included, from the session that a start on a planned mesh and its plan gives: at most 2 × (L - 1) deliveries
+-- since the cut that stands, accepted exactly where a link is under way, at rest one simple path from x to y; the session and every answer are those
+-- that 01's rules make of the list alone
+pub demand-three : (m : Mesh) → InRange m → planned m .answer ≡ Accepted → (calls : List Call) → Demand3 m calls
+demand-three m r = demand-3 m (r .entries)
+
+-- and the route query then gives that path
+pub demand-three-route : (m : Mesh) → InRange m → planned m .answer ≡ Accepted → (calls : List Call) (k : ℕ)
+    → log m calls .cut ≡ Link k → AtRest (ended m calls)
+    → OnePath (ended m calls) (digraph (ended m calls) .head k) (digraph (ended m calls) .tail k) (routeOf (ended m calls))
+demand-three-route m r = demand-route m (r .entries)
+
 -- ---- 01's bench examples marked P
 
 -- every row of the table holds
-pub bench : (r : Row) → List·Memᴰ r table → (decoded (r .book) ≡ r .reading) × (planned (decoded (r .book) .mesh) ≡ r .planning)
+pub bench : (r : Row) → List·Memᴰ r table → Holds r
 bench = row-holds

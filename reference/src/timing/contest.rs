@@ -1,4 +1,4 @@
-//! Two programs at the same job on the same book.
+//! Two programs at a job each, on the same book.
 
 use std::io;
 use std::time::Duration;
@@ -10,21 +10,20 @@ use crate::bench::input;
 const RUNS: usize = 7;
 
 /// How long a run should take.
-const AIM: Duration = Duration::from_millis(300);
+const AIM: Duration = Duration::from_millis(100);
 
 /// How long a trial must take to choose the number of repeats by it.
-const TRIAL: Duration = Duration::from_millis(50);
+const TRIAL: Duration = Duration::from_millis(20);
 
 /// How long a trial may last on the clock without taking that time itself.
 const LONGEST_TRIAL: Duration = Duration::from_secs(3);
 
 /// The microseconds of one call in each program; an error if they ever print
 /// different lines. The programs run by turns.
-pub fn contest(programs: [&Program; 2], job: u8, book: &[u8]) -> io::Result<[f64; 2]> {
-    let [first, second] = programs;
+pub fn contest(programs: [&Program; 2], jobs: [u8; 2], book: &[u8]) -> io::Result<[f64; 2]> {
     let mut runners = [
-        Runner::new(first, job, book)?,
-        Runner::new(second, job, book)?,
+        Runner::new(programs[0], jobs[0], book)?,
+        Runner::new(programs[1], jobs[1], book)?,
     ];
     for _ in 0..RUNS {
         let [first, second] = &mut runners;
@@ -34,6 +33,20 @@ pub fn contest(programs: [&Program; 2], job: u8, book: &[u8]) -> io::Result<[f64
         }
     }
     Ok(runners.map(|runner| runner.microseconds()))
+}
+
+/// The microseconds of a whole run of each program on the same input, start
+/// and end of the process included; an error if they print different texts.
+pub fn whole(programs: [&Program; 2], input: &[u8]) -> io::Result<[f64; 2]> {
+    let mut best = [Duration::MAX; 2];
+    for _ in 0..3 * RUNS {
+        let runs = [programs[0].run(input)?, programs[1].run(input)?];
+        if runs[0].text != runs[1].text {
+            return Err(io::Error::other("different texts"));
+        }
+        best = [best[0].min(runs[0].time), best[1].min(runs[1].time)];
+    }
+    Ok(best.map(|time| time.as_secs_f64() * 1e6))
 }
 
 /// A program at one job, with its best times so far.
@@ -106,8 +119,8 @@ mod tests {
 
     #[test]
     fn scales_repeats_to_the_aim() {
-        assert_eq!(scaled(100, Duration::from_millis(60)), 500);
+        assert_eq!(scaled(100, Duration::from_millis(20)), 500);
         assert_eq!(scaled(2, Duration::from_secs(9)), 2);
-        assert_eq!(scaled(u32::MAX, Duration::from_millis(60)), u32::MAX);
+        assert_eq!(scaled(u32::MAX, Duration::from_millis(20)), u32::MAX);
     }
 }

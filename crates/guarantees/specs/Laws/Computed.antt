@@ -12,12 +12,27 @@ use Rattle.codec.specs.Field.{bitMap}
 use Rattle.codec.specs.Record.{recordLength, linkOf, recordAnswer}
 use Rattle.codec.specs.Book.{headerAnswer, recordsAnswer, linksOf, bookAnswer, meshOf, decoded}
 use Rattle.planner.specs.Plan.{planAnswer, planned}
-use Rattle.guarantees.specs.Bench.{Row, table}
-use Rattle.guarantees.specs.Laws.Same.{sameDecoded, same-decoded, samePlanned, same-planned}
+use Rattle.scan.specs.Sweep.{sweep, sweepFrom}
+use Rattle.scan.specs.Total.{total, count}
+use Rattle.flood.specs.Machine.{fresh, underWay, live, offer, feeds, first, some, atRest, accepts, leaves, opens, begin, arrive, retreat, withdraw, step, play, order}
+use Rattle.flood.specs.Machine.{holds as holds′, accepted as deliveredCount, run as machineRun}
+use Rattle.recovery.specs.Formed.{isOver, overflows, isStray, strays, planFault, floodFault, startAnswer}
+use Rattle.recovery.specs.Formed.{recordAnswer as recordSession}
+use Rattle.recovery.specs.Calls.{started, cutAnswer, afterCut, deliverAnswer, afterDelivery, runAnswer, afterRun}
+use Rattle.recovery.specs.History.{after}
+use Rattle.recovery.specs.Demand.{startedOn}
+use Rattle.guarantees.specs.Bench.{Row, table, turns, passing, takenIn, Holds}
+use Rattle.guarantees.specs.Laws.Same.{sameDecoded, same-decoded, samePlanned, same-planned, sameNumbers, same-numbers}
+
+-- what the row says of its calls
+abbrev callsHold : Row → Bool
+callsHold r =
+    let m = decoded (r .book) .mesh in
+    sameNumbers (turns (r .calls) (startedOn m)) (r .delivered) && sameNumbers (takenIn (after (r .calls) (startedOn m))) (r .taken)
 
 -- the row holds of the definitions
 abbrev holds : Row → Bool
-holds r = sameDecoded (decoded (r .book)) (r .reading) && samePlanned (planned (decoded (r .book) .mesh)) (r .planning)
+holds r = sameDecoded (decoded (r .book)) (r .reading) && (samePlanned (planned (decoded (r .book) .mesh)) (r .planning) && callsHold r)
 
 abbrev allHold : List Row → Bool
 allHold [] = true
@@ -34,9 +49,20 @@ computed : allHold table ≡ true
 unfolding decoded bookAnswer headerAnswer recordsAnswer recordAnswer recordLength linkOf linksOf meshOf endsAnswer
     planned planAnswer meshAnswer linksAnswer allZero lowest lowestFrom any every unreached parts connects reaches reached rounds markLinks markLink markWay
     plan firstThat assignments
+    started startAnswer planFault floodFault overflows isOver strays isStray recordSession afterCut cutAnswer afterDelivery deliverAnswer afterRun runAnswer
+    turns passing after fresh begin offer sweep sweepFrom leaves opens step arrive withdraw retreat accepts underWay live holds′ feeds first some atRest
+    order play deliveredCount machineRun total count
 computed = refl
 
-pub row-holds : (r : Row) → List·Memᴰ r table → (decoded (r .book) ≡ r .reading) × (planned (decoded (r .book) .mesh) ≡ r .planning)
+pub row-holds : (r : Row) → List·Memᴰ r table → Holds r
 row-holds r o =
-    let (read, plan) = and-eq-true-iff (sameDecoded (decoded (r .book)) (r .reading)) _ .0 (each table computed r o) in
-    (same-decoded (decoded (r .book)) (r .reading) read, same-planned (planned (decoded (r .book) .mesh)) (r .planning) plan)
+    let m = decoded (r .book) .mesh in
+    let (read, e1) = and-eq-true-iff (sameDecoded (decoded (r .book)) (r .reading)) _ .0 (each table computed r o) in
+    let (plan, e2) = and-eq-true-iff (samePlanned (planned m) (r .planning)) _ .0 e1 in
+    let (turn, took) = and-eq-true-iff (sameNumbers (turns (r .calls) (startedOn m)) (r .delivered)) _ .0 e2 in
+    record {
+      reads = same-decoded (decoded (r .book)) (r .reading) read;
+      plans = same-planned (planned m) (r .planning) plan;
+      delivers = same-numbers (turns (r .calls) (startedOn m)) (r .delivered) turn;
+      takes = same-numbers (takenIn (after (r .calls) (startedOn m))) (r .taken) took;
+    }

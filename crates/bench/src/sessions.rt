@@ -1,0 +1,158 @@
+// Jobs on a session in which the last link was just cut.
+use crate::job::print_answer;
+use libc::STDOUT_FILENO;
+use mesh::Answer;
+use mesh::Mesh;
+use recovery::Change;
+use recovery::Delivered;
+use recovery::Report;
+use recovery::Session;
+use recovery::Status;
+
+// The allowance of an unhindered run.
+const UNHINDERED: u32 = 4294967295;
+
+// The number of the last link.
+fn last_link(m: Mesh) -> u16 {
+    if m.count == 0 { 0 } else { m.count - 1 }
+}
+
+// The session just after the cut of the last link; the planner's refusal where it has no plan.
+fn just_cut(m: Mesh) -> Change {
+    let p = planner::plan(m);
+    let a = p.answer;
+    let plan = p.plan;
+    let fresh = Session::fresh(m, plan);
+    let Answer::Accepted = a else {
+        return Change {
+            session: fresh,
+            answer: a,
+        };
+    };
+    fresh.cut(last_link(m))
+}
+
+pub(crate) fn run_job(m: Mesh, repeats: u32) {
+    io::write_all(STDOUT_FILENO, b"R ");
+    let c = just_cut(m);
+    let a = c.answer;
+    let Answer::Accepted = a else {
+        print_answer(a);
+        return;
+    };
+    let s = c.session;
+    io::print_decimal(STDOUT_FILENO, run_often(s, repeats) as u64);
+}
+
+fn run_often(s: Session, repeats: u32) -> u32 {
+    let mut made: u32 = 0;
+    let mut i: u32 = 0;
+    while i < repeats {
+        made = run_once(s);
+        i += 1;
+    }
+    made
+}
+
+fn run_once(s: Session) -> u32 {
+    let r = s.run(UNHINDERED);
+    let report = r.report;
+    match report {
+        Report::Made { count, rest: _ } => count,
+        Report::Refused {
+            number: _,
+            place: _,
+        } => 0,
+    }
+}
+
+// The lowest link under way.
+fn lowest_under_way(s: Session) -> u16 {
+    let flood = s.flood;
+    let states = flood.states;
+    let mut i: u16 = 0;
+    while i < 256 {
+        if states[i as usize] == 1 {
+            return i;
+        }
+        i += 1;
+    }
+    0
+}
+
+pub(crate) fn deliver_job(m: Mesh, repeats: u32) {
+    io::write_all(STDOUT_FILENO, b"L ");
+    let c = just_cut(m);
+    let a = c.answer;
+    let Answer::Accepted = a else {
+        print_answer(a);
+        return;
+    };
+    let s = c.session;
+    print_delivered(deliver_often(s, lowest_under_way(s), repeats));
+}
+
+fn deliver_often(s: Session, link: u16, repeats: u32) -> Delivered {
+    let mut d = s.deliver(link).answer;
+    let mut i: u32 = 1;
+    while i < repeats {
+        d = s.deliver(link).answer;
+        i += 1;
+    }
+    d
+}
+
+fn print_acted(word: &[u8], node: u8) {
+    io::write_all(STDOUT_FILENO, word);
+    io::print_decimal(STDOUT_FILENO, node as u64);
+}
+
+fn print_delivered(d: Delivered) {
+    match d {
+        Delivered::Taken(v) => print_acted(b"taken ", v),
+        Delivered::TurnedBack(v) => print_acted(b"turned ", v),
+        Delivered::Released(v) => print_acted(b"released ", v),
+        Delivered::Refused { number, place } => {
+            let a = Answer::Refused { number, place };
+            print_answer(a)
+        }
+    }
+}
+
+pub(crate) fn status_job(m: Mesh, repeats: u32) {
+    io::write_all(STDOUT_FILENO, b"U ");
+    let c = just_cut(m);
+    let a = c.answer;
+    let Answer::Accepted = a else {
+        print_answer(a);
+        return;
+    };
+    let s = c.session;
+    print_status(status_often(s, last_link(m), repeats));
+}
+
+fn status_often(s: Session, link: u16, repeats: u32) -> Status {
+    let mut t = s.status(link);
+    let mut i: u32 = 1;
+    while i < repeats {
+        t = s.status(link);
+        i += 1;
+    }
+    t
+}
+
+fn print_status(t: Status) {
+    let Status::Link {
+        state,
+        under_way,
+        route,
+    } = t
+    else {
+        return;
+    };
+    io::print_decimal(STDOUT_FILENO, state as u64);
+    io::write_all(STDOUT_FILENO, b" ");
+    io::print_decimal(STDOUT_FILENO, under_way as u64);
+    io::write_all(STDOUT_FILENO, b" ");
+    io::print_decimal(STDOUT_FILENO, route as u64);
+}

@@ -1,0 +1,55 @@
+-- What the arrays that the code is given describe. Definitions only.
+use Prim.Native.Nat.{ℕ, zero, suc, _-_, min}
+use mathlib.Core.Bool.{Bool, cond, not, _&&_}
+use mathlib.Core.List.{List, [], _∷_, _++_}
+use lib.ListN.{length, replicate}
+use lib.Dec.{eqb}
+use Rattle.scan.specs.Entry.{at}
+use Rattle.scan.specs.Total.{count}
+use Rattle.flood.specs.declared.Topology.{Topology}
+use Rattle.flood.specs.declared.Ran.{Ran}
+use Rattle.flood.specs.declared.Route.{Route}
+use Rattle.flood.specs.Digraph.{Digraph, Failure}
+use Rattle.flood.specs.Machine.{Flood, underWay, first, some, atRest, run}
+
+-- at most 256 links, each from its tail to its head
+unfoldable pub digraphOf : Topology → Digraph
+digraphOf t = record { nodes = t .nodes; links = min (t .count) 256; tail = at (t .tails); head = at (t .heads) }
+
+-- a link is blocked where its open tail is not its tail
+unfoldable pub failureOf : Topology → Failure
+failureOf t = record { source = t .source; target = t .target; blocked = λ i. not (eqb (at (t .open) i) (at (t .tails) i)) }
+
+-- a run: the flood after it, how many deliveries it made, and whether no link is under way then
+unfoldable pub ranOf : Topology → ℕ → Flood → Ran
+ranOf t allowance f =
+    let r = run (digraphOf t) (failureOf t) allowance f in
+    record { flood = r .flood; made = r .made; rest = atRest (digraphOf t) (r .flood) }
+
+module _ (g : Digraph) where
+  open Digraph g using (links, tail, head)
+
+  -- link i, in state v, is taken and leaves u
+  unfoldable pub carries : ℕ → ℕ → ℕ → Bool
+  carries u i v = eqb (tail i) u && eqb v 2
+
+  -- the taken links from node u on, each the lowest that leaves the node where the one before ended, at most n of them
+  unfoldable pub routeFrom : ℕ → ℕ → List ℕ → List ℕ
+  routeFrom zero u states = []
+  routeFrom (suc n) u states =
+      let i : ℕ = first g (carries u) states in
+      let rest : List ℕ = routeFrom n (head i) states in
+      cond (some g (carries u) states) (i ∷ rest) []
+
+-- the route of a topology's flood from its source on
+unfoldable pub routeOf : Topology → Flood → Route
+routeOf t f =
+    let p = routeFrom (digraphOf t) (digraphOf t .links) (t .source) (f .states) in
+    record { links = p ++ replicate (256 - length p) 0; length = length p }
+
+-- how many of the first links are under way, or taken
+unfoldable pub underWayOf : ℕ → List ℕ → ℕ
+underWayOf links states = count (λ i. underWay (at states i)) (min links 256)
+
+unfoldable pub takenOf : ℕ → List ℕ → ℕ
+takenOf links states = count (λ i. eqb (at states i) 2) (min links 256)

@@ -1,0 +1,169 @@
+// The listing of a book.
+ghost use Prim.Native.Nat.{_≤_};
+ghost use lib.ListN.{length};
+use crate::line::print;
+use crate::line::put_number;
+use crate::line::put_word;
+use flood::Route;
+use mesh::Answer;
+use mesh::Link;
+use mesh::Mesh;
+use mesh::Plan;
+use recovery::Report;
+use recovery::Session;
+
+// The allowance of an unhindered run.
+const UNHINDERED: u32 = 4294967295;
+
+pub(crate) fn print_book(book: &[u8]) {
+    let d = codec::decode(book);
+    let a = d.answer;
+    let Answer::Accepted = a else {
+        print_refusal(a);
+        return;
+    };
+    let m = d.mesh;
+    let p = planner::plan(m);
+    let b = p.answer;
+    let Answer::Accepted = b else {
+        print_refusal(b);
+        return;
+    };
+    let plan = p.plan;
+    print_mesh(m);
+    print_links(m, plan);
+    print_cuts(m, plan);
+}
+
+fn print_refusal(a: Answer) {
+    let Answer::Refused { number, place } = a else {
+        return;
+    };
+    let mut line = [0u8; 64];
+    put_refusal(&mut line, number, place);
+}
+
+fn put_refusal(line: &mut [u8], number: u8, place: usize) {
+    let a = put_word(line, 0, b"refused");
+    let b = put_number(line, a, number as u64);
+    let c = put_number(line, b, place as u64);
+    print(line, c);
+}
+
+fn print_mesh(m: Mesh) {
+    let mut line = [0u8; 64];
+    put_mesh(&mut line, m.nodes, m.count);
+}
+
+fn put_mesh(line: &mut [u8], nodes: u8, count: u16) {
+    let a = put_word(line, 0, b"mesh");
+    let b = put_number(line, a, nodes as u64);
+    let c = put_number(line, b, count as u64);
+    print(line, c);
+}
+
+fn print_links(m: Mesh, plan: Plan) {
+    let count = m.count as usize;
+    let directions = plan.directions;
+    let mut i: usize = 0;
+    while i < 256 {
+        if i < count {
+            let l = m.links[i];
+            print_link(i as u64, l, directions[i]);
+        }
+        i += 1;
+    }
+}
+
+fn print_link(i: u64, l: Link, direction: u8) {
+    let mut line = [0u8; 64];
+    put_link(&mut line, i, l, direction);
+}
+
+fn put_link(line: &mut [u8], i: u64, l: Link, direction: u8) {
+    let a = put_word(line, 0, b"link");
+    let b = put_number(line, a, i);
+    let c = put_number(line, b, l.low as u64);
+    let d = put_number(line, c, l.high as u64);
+    let e = put_number(line, d, direction as u64);
+    print(line, e);
+}
+
+fn print_cuts(m: Mesh, plan: Plan) {
+    let count = m.count;
+    let fresh = Session::fresh(m, plan);
+    let mut k: u16 = 0;
+    while k < count {
+        print_cut(fresh, k);
+        k += 1;
+    }
+}
+
+// Cuts link k on a fresh session and lets it run.
+fn print_cut(fresh: Session, k: u16) {
+    let c = fresh.cut(k);
+    let cut = c.session;
+    let r = cut.run(UNHINDERED);
+    let report = r.report;
+    let Report::Made { count, rest: _ } = report else {
+        return;
+    };
+    let ended = r.session;
+    let routed = ended.route();
+    let route = routed.route;
+    let mesh = fresh.mesh;
+    let plan = fresh.plan;
+    let directions = plan.directions;
+    let mut line = [0u8; 2048];
+    if k < 256 {
+        let i = k as usize;
+        put_cut(&mut line, k, mesh.links[i], directions[i], count, route);
+    }
+}
+
+fn put_cut(line: &mut [u8], k: u16, l: Link, direction: u8, deliveries: u32, route: Route) {
+    let a = put_word(line, 0, b"cut");
+    let b = put_number(line, a, k as u64);
+    let c = put_ends(line, b, l, direction);
+    let d = put_number(line, c, deliveries as u64);
+    let e = put_route(line, d, route);
+    print(line, e);
+}
+
+// The ends of the primary arc: x, then y.
+fn put_ends(line: &mut [u8], at: usize, l: Link, direction: u8) -> usize
+    requires { ⌜ at ≤ length (now line) ⌝ }
+    ensures { λ r. ⌜ r ≤ length (now (line .exit)) ⌝ }
+{
+    if direction == 0 {
+        let a = put_number(line, at, l.low as u64);
+        return put_number(line, a, l.high as u64);
+    }
+    let a = put_number(line, at, l.high as u64);
+    put_number(line, a, l.low as u64)
+}
+
+fn put_route(line: &mut [u8], at: usize, route: Route) -> usize
+    requires { ⌜ at ≤ length (now line) ⌝ }
+    ensures { λ r. ⌜ r ≤ length (now (line .exit)) ⌝ }
+{
+    let length = route.length as usize;
+    let mut next = at;
+    let mut i: usize = 0;
+    while i < 256 {
+        next = put_link_number(line, next, route.links[i], i < length);
+        i += 1;
+    }
+    next
+}
+
+// The number of a link of the route; nothing past its end.
+fn put_link_number(line: &mut [u8], at: usize, k: u16, within: bool) -> usize
+    requires { ⌜ at ≤ length (now line) ⌝ }
+    ensures { λ r. ⌜ r ≤ length (now (line .exit)) ⌝ }
+{
+    if within {
+        return put_number(line, at, k as u64);
+    }
+    at
+}

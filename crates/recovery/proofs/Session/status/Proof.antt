@@ -1,0 +1,60 @@
+-- `recovery::Session::status` meets its contract: refused, it says so; accepted, the counts are the session's own.
+use Prim.Native.Nat.{_≤_}
+use mathlib.Core.Path.{_≡_, sym, _∙_}
+use native.Mathlib.Omega.{arith}
+use borrow.Author.Needs.{needs}
+use Rattle.mesh.specs.declared.Answer.the-variants.{Accepted}
+use Rattle.recovery.specs.Calls.{statusAnswer, statusOf}
+use Rattle.recovery.specs.Laws.Forming.{record-few}
+use Rattle.recovery.specs.Laws.Calls.{status-accepted, status-stops, status-made}
+use Rattle.recovery.proofs.Session.status.Statement.{statement}
+use Rattle.recovery.proofs.Session.status.Tie as tie
+
+accepted : (c : tie.After-enum-told) → let a = c .before .before .before .args in statusAnswer (a .self) (a .link) ≡ Accepted
+accepted c = sym (c .before .before .status-answer .ensures) ∙ c .enum-told .given .1
+
+status-answer-requires : tie.Need-status-answer-requires
+status-answer-requires c κs = search needs
+
+enum-known-a : tie.Need-enum-known-a
+enum-known-a c = search needs
+
+returns : tie.Need-returns
+unfolding statusOf
+returns c = status-stops (c .before .before .before .status-answer .ensures) _ _ (c .before .a .given .1)
+
+enum-told : tie.Need-enum-told
+enum-told c = search needs
+
+under-way-requires : tie.Need-under-way-requires
+under-way-requires c κs = search needs
+
+route-length-requires : tie.Need-route-length-requires
+route-length-requires c κs = search needs
+
+array-read-state : tie.Need-array-read-state
+array-read-state c =
+    let d = c .before .before .before .before .before in
+    let a = d .before .before .before .args in
+    let (r, below) = status-accepted (a .self) (a .link) (accepted d) in
+    let few : a .self .mesh .count ≤ 256 = record-few (a .self) r in
+    omega arith
+
+returns-2 : tie.Need-returns-2
+returns-2 c =
+    let d = c .before .before .before .before .before in
+    let a = d .before .before .before .args in
+    status-made (a .self) (a .link) _ _ (accepted d) (c .before .under-way .ensures) (c .route-length .ensures)
+
+pub status-spec : {M : Type 1} → statement M
+status-spec =
+    tie.close
+    (tie.spec
+    status-answer-requires
+    enum-known-a
+    returns
+    enum-told
+    under-way-requires
+    route-length-requires
+    array-read-state
+    returns-2)

@@ -1,0 +1,88 @@
+-- A list of calls, what each answers, and what the answers say of the cut that stands: the words of demand 3. Definitions only.
+use Prim.Native.Nat.{ℕ, _+_}
+use mathlib.Core.Bool.{Bool, true, false}
+use mathlib.Core.List.{List, [], _∷_}
+use Rattle.scan.specs.Total.{bit}
+use Rattle.mesh.specs.declared.Answer.{Answer}
+use Rattle.mesh.specs.declared.Answer.the-variants.{Accepted, Refused}
+use Rattle.recovery.specs.declared.Cut.{Cut}
+use Rattle.recovery.specs.declared.Cut.the-variants as stands
+use Rattle.recovery.specs.declared.Session.{Session}
+use Rattle.recovery.specs.declared.Delivered.{Delivered}
+use Rattle.recovery.specs.declared.Delivered.the-variants as delivered
+use Rattle.recovery.specs.declared.Report.{Report}
+use Rattle.recovery.specs.declared.Report.the-variants as report
+use Rattle.recovery.specs.declared.Status.{Status}
+use Rattle.recovery.specs.Calls.{afterCut, afterDelivery, afterRun, afterMend, statusOf}
+
+-- the calls on a session, with any argument: a link number, for run the allowance
+pub data Call : Type 0 where
+  cut deliver run mend status : ℕ → Call
+
+-- what each answers
+abbrev pub Reply : Call → Type 0
+Reply (cut k) = Answer
+Reply (deliver k) = Delivered
+Reply (run n) = Report
+Reply (mend k) = Answer
+Reply (status k) = Status
+
+abbrev pub reply : (c : Call) → Session → Reply c
+reply (cut k) s = afterCut s k .answer
+reply (deliver k) s = afterDelivery s k .answer
+reply (run n) s = afterRun s n .report
+reply (mend k) s = afterMend s k .answer
+reply (status k) s = statusOf s k
+
+-- the session that it returns
+abbrev pub next : Call → Session → Session
+next (cut k) s = afterCut s k .session
+next (deliver k) s = afterDelivery s k .session
+next (run n) s = afterRun s n .session
+next (mend k) s = afterMend s k .session
+next (status k) s = s
+
+-- the session after the calls, each on the session that the one before returned
+unfoldable pub after : List Call → Session → Session
+after [] s = s
+after (c ∷ cs) s = after cs (next c s)
+
+-- the calls, each with its answer
+abbrev pub Answered : Type 0
+Answered = (c : Call) × Reply c
+
+unfoldable pub answers : List Call → Session → List Answered
+answers [] s = []
+answers (c ∷ cs) s = (c, reply c s) ∷ answers cs (next c s)
+
+-- ---- what the answers say
+
+-- a delivery was accepted: it answered taken, turned back or released
+abbrev pub accepted : Delivered → Bool
+accepted (delivered.Taken v) = true
+accepted (delivered.TurnedBack v) = true
+accepted (delivered.Released v) = true
+accepted (delivered.Refused number place) = false
+
+-- the cut that stands, and the deliveries accepted since
+pub record Log : Type 0 where
+  pub cut : Cut
+  pub deliveries : ℕ
+
+abbrev pub emptyLog : Log
+emptyLog = record { cut = stands.Nothing; deliveries = 0 }
+
+-- a cut stands from when it was accepted until a mend was; a run counts by the deliveries that it made
+abbrev pub note : (c : Call) → Reply c → Log → Log
+note (cut k) Accepted l = record { cut = stands.Link k; deliveries = 0 }
+note (cut k) (Refused number place) l = l
+note (deliver k) d l = record { cut = l .cut; deliveries = l .deliveries + bit (accepted d) }
+note (run n) (report.Made count rest) l = record { cut = l .cut; deliveries = l .deliveries + count }
+note (run n) (report.Refused number place) l = l
+note (mend k) Accepted l = emptyLog
+note (mend k) (Refused number place) l = l
+note (status k) t l = l
+
+unfoldable pub logged : List Answered → Log → Log
+logged [] l = l
+logged ((c, a) ∷ rest) l = logged rest (note c a l)

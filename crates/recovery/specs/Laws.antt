@@ -1,0 +1,17 @@
+pub mod Arrays
+pub mod Backup
+pub mod Calls
+pub mod Forming
+pub mod Kept
+pub mod Recovered
+pub mod Routed
+pub mod Ruled
+pub mod RuledCalls
+pub mod RuledNext
+pub mod RuledReply
+pub mod RuledRun
+pub mod RuledSteps
+pub mod RuledTests
+pub mod Started
+pub mod Tested
+pub mod Wording

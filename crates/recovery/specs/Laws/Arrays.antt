@@ -1,0 +1,145 @@
+-- The arrays of a topology, filled entry by entry, and counts over the states of the links. Assumes nothing.
+use Prim.Native.Nat.{ℕ, _+_, _<_, _≤_, min}
+use mathlib.Core.Path.{_≡_, refl, sym, _∙_}
+use mathlib.Core.Bool.{Bool, cond, not, _&&_}
+use mathlib.Core.List.{List}
+use native.Mathlib.Omega.{arith}
+use native.Mathlib.Decide.{decLt}
+use lib.Dec.{eqb}
+use lib.ListN.{length, set, length-set, List·getD-eq-default}
+use borrow.Author.Tests.{eq-eqb, ne-eqb}
+use Rattle.scan.specs.Test.{branch, eq-says, not-says, says-same}
+use Rattle.scan.specs.Entry.{at, moved, set-at}
+use Rattle.scan.specs.Lowest.{any, any-fails, any-none}
+use Rattle.scan.specs.Total.{count, count-zero}
+use Rattle.mesh.specs.declared.Link.{Link}
+use Rattle.mesh.specs.declared.Mesh.{Mesh}
+use Rattle.mesh.specs.declared.Plan.{Plan}
+use Rattle.mesh.specs.declared.Answer.the-variants.{Accepted}
+use Rattle.mesh.specs.Mesh.{zeroLink, meshAnswer}
+use Rattle.mesh.specs.WellFormed.{link}
+use Rattle.mesh.specs.Arc.{tailOf, headOf, backTail}
+use Rattle.mesh.specs.Laws.Checked.{passes}
+use Rattle.flood.specs.declared.Topology.{Topology}
+use Rattle.flood.specs.Machine.{underWay, some, atRest, activity, takenLinks}
+use Rattle.flood.specs.Topology.{digraphOf, failureOf, underWayOf, takenOf}
+use Rattle.recovery.specs.declared.Cut.{Cut}
+use Rattle.recovery.specs.declared.Cut.the-variants as cuts
+use Rattle.recovery.specs.declared.Session.{Session}
+use Rattle.recovery.specs.Calls.{backup, digraph, standing, resting, routeLength}
+use Rattle.recovery.specs.Arrays.{Tails, Heads, cutFailure, lengthBy}
+
+min-few : (n : ℕ) → n ≤ 256 → min n 256 ≡ n
+min-few n h = omega arith
+
+-- ---- a loop that fills an array
+
+-- of 256 entries those below i are f's
+pub record Filled (f : ℕ → ℕ) (t : List ℕ) (i : ℕ) : Type 0 where
+  pub bound : i ≤ 256
+  pub sized : length t ≡ 256
+  pub same : (j : ℕ) → j < i → at t j ≡ f j
+
+module _ (f : ℕ → ℕ) where
+  -- before the loop
+  pub fill-none : (t : List ℕ) → length t ≡ 256 → Filled f t 0
+  fill-none t e = record { bound = omega arith; sized = e; same = λ j h. absurd (omega arith) }
+
+  -- the loop's store at i
+  pub fill-next : (t : List ℕ) (i v : ℕ) → Filled f t i → i < 256 → v ≡ f i → Filled f (set t i v) (i + 1)
+  fill-next t i v F h e = record {
+    bound = omega arith;
+    sized = length-set t i v ∙ F .sized;
+    same = λ j. moved (set-at t i v (omega (arith, F .sized))) (λ j w. j < i + 1 → w ≡ f j) j (λ l. e) (λ n l. F .same j (omega arith));
+  }
+
+-- after the loop, where f is 0 past the last entry
+pub fill-all : (f : ℕ → ℕ) (t : List ℕ) (i : ℕ) → Filled f t i → 256 ≤ i → ((j : ℕ) → 256 ≤ j → f j ≡ 0) → (j : ℕ) → at t j ≡ f j
+fill-all f t i F h past j = elim (decLt j 256) [
+  | yes l ↦ F .same j (omega arith)
+  | no l ↦ List·getD-eq-default t 0 (omega (arith, F .sized)) ∙ sym (past j (omega arith))
+]
+
+-- both ends of an entry past the last are 0, whatever its direction
+module _ (m : Mesh) (sized : length (m .links) ≡ 256) (directions : List ℕ) (j : ℕ) (h : 256 ≤ j) where
+  past : link m j ≡ zeroLink
+  past = List·getD-eq-default (m .links) zeroLink (omega arith)
+
+  zero : cond {A = ℕ} (eqb (at directions j) 0) 0 0 ≡ 0
+  zero = branch (λ (v : ℕ). v ≡ 0) (eqb (at directions j) 0) (λ e. refl) (λ e. refl)
+
+  pub tails-past : tailOf (link m j) (at directions j) ≡ 0
+  tails-past = rw past zero
+
+  pub heads-past : headOf (link m j) (at directions j) ≡ 0
+  heads-past = rw past zero
+
+-- ---- the topology under a cut of link k
+
+module _ (m : Mesh) (p : Plan) (good : meshAnswer m ≡ Accepted) (k : ℕ) (below : k < m .count) where
+  -- a tail is a node, and 255 is none
+  tail-below : backTail m p k < 255
+  tail-below =
+      let P = passes m good in
+      let low : link m k .low < m .nodes = P .low-below k below in
+      let high : link m k .high < m .nodes = P .high-below k below in
+      let most : m .nodes ≤ 64 = P .nodes-most in
+      branch (λ (v : ℕ). v < 255) (eqb (at (p .directions) k) 0) (λ e. omega arith) (λ e. omega arith)
+
+  pub link-entry : k < 256
+  link-entry = let most : m .count ≤ 256 = passes m good .count-most in omega arith
+
+  module _ (tails heads : List ℕ) (T : Tails m (p .directions) tails) (H : Heads m (p .directions) heads) where
+    abbrev made : Topology
+    made = record { nodes = m .nodes; count = m .count; source = at heads k; target = at tails k; tails = tails; heads = heads; «open» = set tails k 255 }
+
+    pub topology-digraph : digraphOf made ≡ backup m p
+    unfolding digraphOf
+    topology-digraph = λ j. record { nodes = m .nodes; links = few j; tail = λ i. T .same i j; head = λ i. H .same i j }
+      where
+        few : min (m .count) 256 ≡ m .count
+        few = min-few (m .count) (passes m good .count-most)
+
+    -- only the open tail of link k is not its tail
+    blocked-only : (i : ℕ) → not (eqb (at (set tails k 255) i) (at tails i)) ≡ eqb i k
+    blocked-only i =
+        let inside : k < length tails = omega (arith, link-entry, T .sized) in
+        let low : at tails k < 255 = rw (T .same k) tail-below in
+        moved (set-at tails k 255 inside) (λ i v. not (eqb v (at tails i)) ≡ eqb i k) i
+        (rw (ne-eqb 255 (at tails k) (λ e. omega arith), eq-eqb k k refl))
+        (λ n. rw (eq-eqb (at tails i) (at tails i) refl, ne-eqb i k n))
+
+    pub topology-failure : failureOf made ≡ cutFailure (backup m p) k
+    unfolding failureOf
+    topology-failure = λ j. record { source = H .same k j; target = T .same k j; blocked = λ i. blocked-only i j }
+
+-- ---- counts of a session's links, of which there are at most 256
+
+-- none is counted just where none passes
+count-none : (p : ℕ → Bool) (n : ℕ) → eqb (count p n) 0 ≡ not (any p n)
+count-none p n =
+    says-same (eq-says (count p n) 0)
+    (λ t. count-zero p n .1 (any-fails p n (not-says _ .0 t)), λ e. not-says _ .1 (any-none p n n (count-zero p n .0 e) (omega arith)))
+
+module _ (s : Session) (few : s .mesh .count ≤ 256) where
+  pub under-way-counted : underWayOf (s .mesh .count) (s .flood .states) ≡ activity (digraph s) (s .flood)
+  unfolding underWayOf activity
+  under-way-counted = rw (min-few (s .mesh .count) few)
+
+  taken-counted : takenOf (s .mesh .count) (s .flood .states) ≡ takenLinks (digraph s) (s .flood)
+  unfolding takenOf takenLinks
+  taken-counted = rw (min-few (s .mesh .count) few)
+
+  pub resting-counted : eqb (underWayOf (s .mesh .count) (s .flood .states)) 0 ≡ resting s
+  unfolding underWayOf atRest some
+  resting-counted = rw (min-few (s .mesh .count) few) (count-none (λ i. underWay (at (s .flood .states) i)) (s .mesh .count))
+
+  -- the route length, by the number of links that are under way
+  pub length-counted : lengthBy (s .mesh .count) (s .cut) (s .flood .states) (underWayOf (s .mesh .count) (s .flood .states)) ≡ routeLength s
+  unfolding routeLength
+  length-counted = under (s .cut)
+    where
+      under : (c : Cut) → lengthBy (s .mesh .count) c (s .flood .states) (underWayOf (s .mesh .count) (s .flood .states))
+          ≡ cond (standing c && resting s) (takenLinks (digraph s) (s .flood)) 0
+      under cuts.Nothing = refl
+      under (cuts.Link k) = rw (resting-counted, taken-counted)

@@ -1,0 +1,171 @@
+-- What an accepted call has passed, and what each call gives by the way it goes. Assumes nothing.
+use Prim.Native.Nat.{ℕ, _<_, _≤_}
+use mathlib.Core.Path.{_≡_, refl, sym, ap, _∙_}
+use mathlib.Core.Bool.{Bool, true, false, cond}
+use mathlib.Core.List.{List, []}
+use borrow.Author.Tests.{ltb-true}
+use Rattle.scan.specs.Test.{clash}
+use Rattle.scan.specs.Entry.{at}
+use Rattle.mesh.specs.declared.Answer.{Answer}
+use Rattle.mesh.specs.declared.Answer.the-variants.{Accepted, Refused}
+use Rattle.mesh.specs.Mesh.{meshAnswer}
+use Rattle.mesh.specs.Laws.Answer.{must-accepted, andThen-accepted}
+use Rattle.flood.specs.declared.Flood.{Flood}
+use Rattle.flood.specs.declared.Topology.{Topology}
+use Rattle.flood.specs.declared.Ran.{Ran}
+use Rattle.flood.specs.declared.Route.{Route}
+use Rattle.flood.specs.Digraph.{Digraph, Failure}
+use Rattle.flood.specs.Machine as machine
+use Rattle.flood.specs.Machine.{step}
+use Rattle.flood.specs.Topology as topology
+use Rattle.flood.specs.Topology.{underWayOf}
+use Rattle.recovery.specs.declared.Cut.{Cut}
+use Rattle.recovery.specs.declared.Cut.the-variants as cuts
+use Rattle.recovery.specs.declared.Session.{Session}
+use Rattle.recovery.specs.declared.Change.{Change}
+use Rattle.recovery.specs.declared.Delivered.{Delivered}
+use Rattle.recovery.specs.declared.Delivered.the-variants as delivered
+use Rattle.recovery.specs.declared.Delivery.{Delivery}
+use Rattle.recovery.specs.declared.Report.the-variants as report
+use Rattle.recovery.specs.declared.Run.{Run}
+use Rattle.recovery.specs.declared.Status.the-variants as status
+use Rattle.recovery.specs.declared.Routed.{Routed}
+use Rattle.recovery.specs.Formed.{recordAnswer}
+use Rattle.recovery.specs.Calls.{digraph, failureOf, failure, standing, isLink, cutAnswer, deliverAnswer, runAnswer, statusAnswer}
+use Rattle.recovery.specs.Calls.{withFlood, resting, change, deliveryAs, afterDelivery, runAs, afterRun, statusAs, statusOf, routeOf, asRoute, routedAs}
+use Rattle.recovery.specs.Arrays.{cutFailure, cutLink, actedBy, lengthBy}
+use Rattle.recovery.specs.Laws.Forming.{record-mesh, record-few, record-cut}
+use Rattle.recovery.specs.Laws.Arrays.{under-way-counted, length-counted}
+
+-- ---- what an accepted call has passed
+
+module _ (s : Session) where
+  pub cut-accepted : (k : ℕ) → cutAnswer s k ≡ Accepted → (recordAnswer s ≡ Accepted) × (k < s .mesh .count)
+  unfolding cutAnswer
+  cut-accepted k e =
+      let (r, a) = andThen-accepted (recordAnswer s) _ e in
+      (r, ltb-true _ _ (must-accepted (isLink s k) 12 k _ a .0))
+
+  pub deliver-accepted : (k : ℕ) → deliverAnswer s k ≡ Accepted → (recordAnswer s ≡ Accepted) × (k < s .mesh .count) × (standing (s .cut) ≡ true)
+  unfolding deliverAnswer
+  deliver-accepted k e =
+      let (r, a) = andThen-accepted (recordAnswer s) _ e in
+      let (l, b) = must-accepted (isLink s k) 12 k _ a in
+      (r, ltb-true _ _ l, must-accepted (standing (s .cut)) 23 k _ b .0)
+
+  pub run-accepted : runAnswer s ≡ Accepted → (recordAnswer s ≡ Accepted) × (standing (s .cut) ≡ true)
+  unfolding runAnswer
+  run-accepted e =
+      let (r, a) = andThen-accepted (recordAnswer s) _ e in
+      (r, must-accepted (standing (s .cut)) 23 0 _ a .0)
+
+  pub status-accepted : (k : ℕ) → statusAnswer s k ≡ Accepted → (recordAnswer s ≡ Accepted) × (k < s .mesh .count)
+  unfolding statusAnswer
+  status-accepted k e =
+      let (r, a) = andThen-accepted (recordAnswer s) _ e in
+      (r, ltb-true _ _ (must-accepted (isLink s k) 12 k _ a .0))
+
+-- ---- the cut that stands
+
+stands-link : (c : Cut) → standing c ≡ true → c ≡ cuts.Link (cutLink c)
+stands-link cuts.Nothing t = clash t refl
+stands-link (cuts.Link k) t = refl
+
+stands-failure : (g : Digraph) (c : Cut) → standing c ≡ true → cutFailure g (cutLink c) ≡ failureOf g c
+stands-failure g cuts.Nothing t = clash t refl
+stands-failure g (cuts.Link k) t = refl
+
+module _ (s : Session) (stands : standing (s .cut) ≡ true) (k : ℕ) (e : k ≡ cutLink (s .cut)) where
+  -- it is a link of an accepted mesh
+  pub standing-link : recordAnswer s ≡ Accepted → (meshAnswer (s .mesh) ≡ Accepted) × (k < s .mesh .count)
+  standing-link r = (record-mesh s r, record-cut s r k (stands-link (s .cut) stands ∙ ap cuts.Link (sym e)))
+
+  -- the topology under it has the session's failure
+  pub standing-failure : (t : Topology) → topology.failureOf t ≡ cutFailure (digraph s) k → topology.failureOf t ≡ failure s
+  standing-failure t f = f ∙ ap (cutFailure (digraph s)) e ∙ stands-failure (digraph s) (s .cut) stands
+
+-- ---- what each call gives: r is its answer a
+
+module _ {a r : Answer} (e : r ≡ a) where
+  -- start, cut and mend
+  pub change-stops : (before after next : Session) {number place : ℕ} → r ≡ Refused number place → next ≡ before
+      → _≡_ {A = Change} (record { session = next; answer = r }) (change a before after)
+  change-stops before after next t n = (λ i. record { session = n i; answer = t i }) ∙ ap (λ (x : Answer). change x before after) (sym t ∙ e)
+
+  pub change-goes : (before after next : Session) → r ≡ Accepted → next ≡ after
+      → _≡_ {A = Change} (record { session = next; answer = r }) (change a before after)
+  change-goes before after next t n = (λ i. record { session = n i; answer = t i }) ∙ ap (λ (x : Answer). change x before after) (sym t ∙ e)
+
+  -- delivery
+  pub delivery-stops : (s : Session) (k : ℕ) (f : Flood) {number place : ℕ} → r ≡ Refused number place
+      → _≡_ {A = Delivery} (record { session = s; answer = delivered.Refused number place }) (deliveryAs a s k f)
+  delivery-stops s k f t = ap (λ (x : Answer). deliveryAs x s k f) (sym t ∙ e)
+
+  -- run
+  pub run-stops : (s : Session) (o : machine.Ran) {number place : ℕ} → r ≡ Refused number place
+      → _≡_ {A = Run} (record { session = s; report = report.Refused number place }) (runAs a s o)
+  run-stops s o t = ap (λ (x : Answer). runAs x s o) (sym t ∙ e)
+
+  -- status
+  pub status-stops : (s : Session) (k : ℕ) {number place : ℕ} → r ≡ Refused number place → status.Refused number place ≡ statusAs a s k
+  status-stops s k t = ap (λ (x : Answer). statusAs x s k) (sym t ∙ e)
+
+  -- the route query
+  pub routed-stops : (p : List ℕ) (o : Route) {number place : ℕ} → r ≡ Refused number place → o ≡ asRoute []
+      → _≡_ {A = Routed} (record { route = o; answer = r }) (routedAs a p)
+  routed-stops p o t n = (λ i. record { route = n i; answer = t i }) ∙ ap (λ (x : Answer). routedAs x p) (sym t ∙ e)
+
+  pub routed-goes : (p : List ℕ) (o : Route) → r ≡ Accepted → o ≡ asRoute p → _≡_ {A = Routed} (record { route = o; answer = r }) (routedAs a p)
+  routed-goes p o t n = (λ i. record { route = n i; answer = t i }) ∙ ap (λ (x : Answer). routedAs x p) (sym t ∙ e)
+
+-- a link's state, u links under way and the route length l
+pub status-made : (s : Session) (k u l : ℕ) → statusAnswer s k ≡ Accepted → u ≡ underWayOf (s .mesh .count) (s .flood .states)
+    → l ≡ lengthBy (s .mesh .count) (s .cut) (s .flood .states) u → status.Link (at (s .flood .states) k) u l ≡ statusOf s k
+unfolding statusOf
+status-made s k u l a n q =
+    let few : s .mesh .count ≤ 256 = record-few s (status-accepted s k a .0) in
+    (λ i. status.Link (at (s .flood .states) k) ((n ∙ under-way-counted s few) i)
+    ((q ∙ ap (lengthBy (s .mesh .count) (s .cut) (s .flood .states)) n ∙ length-counted s few) i))
+    ∙ ap (λ (x : Answer). statusAs x s k) (sym a)
+
+-- the route's links, where the test says that the session is at rest
+abbrev routeWhere : Session → Bool → List ℕ
+routeWhere s b = cond b (topology.routeFrom (digraph s) (s .mesh .count) (failure s .source) (s .flood .states)) []
+
+-- no links while one is under way
+pub route-busy : (s : Session) (next : Route) → resting s ≡ false → next ≡ asRoute [] → next ≡ asRoute (routeOf s)
+unfolding routeOf
+route-busy s next q n = n ∙ sym (ap (λ (b : Bool). asRoute (routeWhere s b)) q)
+
+-- what is made on the session's topology t
+module _ (s : Session) (t : Topology) (d : topology.digraphOf t ≡ digraph s) (f : topology.failureOf t ≡ failure s) where
+  pub delivery-made : (k : ℕ) (next : Flood) (w : Delivered) → deliverAnswer s k ≡ Accepted
+      → next ≡ step (topology.digraphOf t) (topology.failureOf t) k (s .flood)
+      → w ≡ actedBy (at (t .tails) k) (at (t .heads) k) (at (next .states) k)
+      → _≡_ {A = Delivery} (record { session = withFlood s next; answer = w }) (afterDelivery s k)
+  unfolding afterDelivery topology.digraphOf
+  delivery-made k next w a n q =
+      let m : next ≡ step (digraph s) (failure s) k (s .flood) = n ∙ (λ i. step (d i) (f i) k (s .flood)) in
+      (λ i. record {
+        session = withFlood s (m i);
+        answer = (q ∙ (λ j. actedBy (d j .tail k) (d j .head k) (at (m j .states) k))) i;
+      })
+      ∙ ap (λ (x : Answer). deliveryAs x s k (step (digraph s) (failure s) k (s .flood))) (sym a)
+
+  pub run-made : (allowance : ℕ) (o : Ran) → runAnswer s ≡ Accepted → o ≡ topology.ranOf t allowance (s .flood)
+      → _≡_ {A = Run} (record { session = withFlood s (o .flood); report = report.Made (o .made) (o .rest) }) (afterRun s allowance)
+  unfolding afterRun topology.ranOf
+  run-made allowance o a n =
+      let m : o ≡ ran (digraph s) (failure s) = n ∙ (λ i. ran (d i) (f i)) in
+      (λ i. record { session = withFlood s (m i .flood); report = report.Made (m i .made) (m i .rest) })
+      ∙ ap (λ (x : Answer). runAs x s (machine.run (digraph s) (failure s) allowance (s .flood))) (sym a)
+    where
+      ran : Digraph → Failure → Ran
+      ran g x = let r = machine.run g x allowance (s .flood) in record { flood = r .flood; made = r .made; rest = machine.atRest g (r .flood) }
+
+  pub route-made : (next : Route) → resting s ≡ true → next ≡ topology.routeOf t (s .flood) → next ≡ asRoute (routeOf s)
+  unfolding routeOf topology.routeOf topology.failureOf
+  route-made next q n =
+      n
+      ∙ (λ i. asRoute (topology.routeFrom (d i) (d i .links) (f i .source) (s .flood .states)))
+      ∙ sym (ap (λ (b : Bool). asRoute (routeWhere s b)) q)

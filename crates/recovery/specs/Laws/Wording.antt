@@ -1,0 +1,138 @@
+-- What an accepted delivery answers, case by case as 01 words it: the link's state then decides, and the tests of each case give that state. Assumes nothing.
+use Prim.Native.Nat.{ℕ, _<_}
+use mathlib.Core.Path.{_≡_, _∙_, ap}
+use mathlib.Core.Logic.{_≢_}
+use mathlib.Core.Bool.{Bool, true, false}
+use mathlib.Core.List.{List}
+use native.Mathlib.Omega.{arith}
+use native.Mathlib.Decide.{decLt}
+use lib.ListN.{length, set, List·getD-eq-default}
+use lib.Seq.{getD-set-other}
+use borrow.Author.Tests.{eq-eqb, ne-eqb, eqb-false}
+use Rattle.scan.specs.Test.{failing}
+use Rattle.scan.specs.Entry.{at, has, set-at}
+use Rattle.flood.specs.declared.Flood.{Flood}
+use Rattle.flood.specs.Digraph.{Digraph, Failure}
+use Rattle.flood.specs.Digraph as failures
+use Rattle.flood.specs.Machine.{offer, opens, accepts, arrive, step}
+use Rattle.flood.specs.Laws.Tests.{Opens, some-opens-says, length-offer}
+use Rattle.flood.specs.Laws.Ways.{withdraw-ways}
+use Rattle.mesh.specs.declared.Answer.the-variants.{Accepted}
+use Rattle.recovery.specs.declared.Cut.{Cut}
+use Rattle.recovery.specs.declared.Cut.the-variants.{Link}
+use Rattle.recovery.specs.declared.Delivered.the-variants.{Taken, TurnedBack, Released}
+use Rattle.recovery.specs.declared.Session.{Session}
+use Rattle.recovery.specs.Calls.{digraph, failureOf, acted, deliverAnswer, afterDelivery}
+use Rattle.recovery.specs.Laws.Tested.{deliver-accepted}
+
+-- ---- the state of the link delivered on
+
+-- an entry that is not zero is one of the list
+entry-inside : (l : List ℕ) (j : ℕ) → 0 < at l j → j < length l
+entry-inside l j h = elim (decLt j (length l)) [ yes b ↦ b | no b ↦ absurd (omega (arith, List·getD-eq-default l 0 {n = j} (omega arith))) ]
+
+module _ (g : Digraph) (c : Failure) (f : Flood) (j : ℕ) (t : accepts g j f ≡ true) where
+  open Digraph g using (head)
+  open Failure c using (target)
+
+  abbrev S : ℕ → ℕ
+  S = at (f .states)
+
+  set-state : 0 < S j → (v : ℕ) → at (set (f .states) j v) j ≡ v
+  set-state h v = set-at (f .states) j v (entry-inside (f .states) j h) .there
+
+  -- its head is reached already; it is the target; it has links to offer; it has none
+  module _ (o : S j ≡ 1) where
+    state-known : has (f .reached) (head j) ≡ true → at (step g c j f .states) j ≡ 3
+    unfolding step arrive
+    state-known r = rw (t, o, r) (set-state (omega arith) 3)
+
+    state-target : has (f .reached) (head j) ≡ false → head j ≡ target → at (step g c j f .states) j ≡ 2
+    unfolding step arrive
+    state-target r y = rw (t, o, r, eq-eqb (head j) target y) (set-state (omega arith) 2)
+
+    module _ (r : has (f .reached) (head j) ≡ false) (n : head j ≢ target) where
+      state-offers : (i : ℕ) × Opens g c S (head j) i → at (step g c j f .states) j ≡ 2
+      unfolding step arrive
+      state-offers w =
+          let l : List ℕ = offer (opens g c (head j)) (f .states) in
+          let b : j < length l = omega (arith, length-offer (opens g c (head j)) (f .states), entry-inside (f .states) j (omega arith)) in
+          rw (t, o, r, ne-eqb (head j) target n, some-opens-says g c (head j) (f .states) n .1 w) (set-at l j 2 b .there)
+
+      state-none : ((i : ℕ) × Opens g c S (head j) i → ⊥) → at (step g c j f .states) j ≡ 3
+      unfolding step arrive
+      state-none w =
+          rw (t, o, r, ne-eqb (head j) target n, failing (some-opens-says g c (head j) (f .states) n) w) (set-state (omega arith) 3)
+
+  -- whatever falls back then, it is another link
+  state-released : S j ≡ 3 → at (step g c j f .states) j ≡ 4
+  unfolding step
+  state-released o = rw (t, o) (withdraw-ways g c (λ f′. at (f′ .states) j ≡ 4) f j (λ firm. there) (λ x alone m m< z d. stays m z))
+    where
+      there : at (set (f .states) j 4) j ≡ 4
+      there = set-state (omega arith) 4
+
+      stays : (m : ℕ) → at (set (f .states) j 4) m ≡ 2 → at (set (set (f .states) j 4) m 3) j ≡ 4
+      stays m z = getD-set-other (set (f .states) j 4) m j 3 0 (λ e. let q = ap (at (set (f .states) j 4)) e ∙ z in omega (arith, there)) ∙ there
+
+-- ---- the answer to a delivery on link k, a to b, while the cut of link c stands, whose back-up arc starts at y
+
+module _ (s : Session) (c k : ℕ) (stands : s .cut ≡ Link c) (ok : deliverAnswer s k ≡ Accepted) where
+  abbrev g : Digraph
+  g = digraph s
+
+  open Digraph g using (links, tail, head)
+
+  abbrev x : Failure
+  x = failures.cut g c
+
+  abbrev a : ℕ
+  a = tail k
+
+  abbrev b : ℕ
+  b = head k
+
+  abbrev y : ℕ
+  y = tail c
+
+  abbrev state : ℕ → ℕ
+  state = at (s .flood .states)
+
+  abbrev reached : ℕ → Bool
+  reached = has (s .flood .reached)
+
+  -- some quiet link leaves b besides the cut one
+  abbrev QuietLink : Type 0
+  QuietLink = (i : ℕ) × (i < links) × (tail i ≡ b) × (i ≢ c) × (state i ≡ 0)
+
+  moves : accepts g k (s .flood) ≡ true
+  moves = deliver-accepted s k ok .1
+
+  -- it answers by the state that the link has then
+  answer-by : {v : ℕ} → at (step g x k (s .flood) .states) k ≡ v → afterDelivery s k .answer ≡ acted g k v
+  unfolding afterDelivery
+  answer-by e =
+      rw ok (ap (λ (u : Cut). acted g k (at (step g (failureOf g u) k (s .flood) .states) k)) stands ∙ ap (acted g k) e)
+
+  module _ (offered : state k ≡ 1) where
+    -- b is reached
+    pub answer-reached : reached b ≡ true → afterDelivery s k .answer ≡ TurnedBack b
+    answer-reached r = answer-by (state-known g x (s .flood) k moves offered r)
+
+    module _ (fresh : reached b ≡ false) where
+      -- b is y
+      pub answer-target : b ≡ y → afterDelivery s k .answer ≡ Taken b
+      answer-target e = answer-by (state-target g x (s .flood) k moves offered fresh e)
+
+      -- b is not y and has links to offer, or none
+      pub answer-offers : b ≢ y → QuietLink → afterDelivery s k .answer ≡ Taken b
+      answer-offers n (i, l, e, d, z) =
+          answer-by (state-offers g x (s .flood) k moves offered fresh n (i, (n, l, e, ne-eqb i c d, z)))
+
+      pub answer-none : b ≢ y → (QuietLink → ⊥) → afterDelivery s k .answer ≡ TurnedBack b
+      answer-none n none =
+          answer-by (state-none g x (s .flood) k moves offered fresh n
+          (λ (i, o). none (i, o .1, o .2, eqb-false i c (o .3), o .4)))
+
+  pub answer-refused : state k ≡ 3 → afterDelivery s k .answer ≡ Released a
+  answer-refused o = answer-by (state-released g x (s .flood) k moves o)

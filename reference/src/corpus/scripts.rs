@@ -1,0 +1,22 @@
+//! Scripts: lists of calls on sessions of every kind.
+
+pub mod caller;
+pub mod examples;
+pub mod faults;
+pub mod grounds;
+pub mod ill_formed;
+pub mod lists;
+pub mod odd;
+pub mod plans;
+
+use crate::case::Case;
+use crate::random::Random;
+
+pub fn cases(random: &mut Random) -> Vec<Case> {
+    let mut scripts = examples::scripts();
+    scripts.extend(lists::scripts(random));
+    scripts.extend(plans::scripts(random));
+    scripts.extend(ill_formed::scripts(random));
+    scripts.extend(odd::scripts(random));
+    scripts.into_iter().map(Case::Script).collect()
+}

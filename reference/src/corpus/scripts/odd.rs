@@ -1,0 +1,123 @@
+//! Sessions that are well formed though no list of calls produces them.
+
+use super::caller::Caller;
+use super::grounds::{any, largest, small};
+use crate::mesh::Mesh;
+use crate::plan::{plan, Plan};
+use crate::random::Random;
+use crate::script::{Call, Script};
+use crate::session::{start, Session};
+
+/// The states to choose from, those named more than once more often.
+const STATES: [&[u8]; 6] = [
+    &[0, 1, 2, 3, 4],
+    &[0, 2, 4],
+    &[2],
+    &[0, 0, 0, 1, 2, 3],
+    &[1, 3],
+    &[2, 2, 2, 3, 4],
+];
+
+pub fn scripts(random: &mut Random) -> Vec<Script> {
+    let mut scripts = Vec::new();
+    for turn in 0..260 {
+        let mesh = if turn % 3 == 0 { any } else { small }(random);
+        let session = session(&mesh, STATES[turn % STATES.len()], random);
+        let called = match turn % 4 {
+            0 => before_a_cut(session, &mesh, random),
+            1 => delivered(session, &mesh, random),
+            _ => under_a_cut(session, &mesh, random),
+        };
+        scripts.push(called);
+    }
+    for states in STATES {
+        let mesh = largest(random);
+        let session = session(&mesh, states, random);
+        scripts.push(under_a_cut(session, &mesh, random));
+    }
+    scripts
+}
+
+/// Random states and reached nodes, on the mesh's plan or a random one.
+fn session(mesh: &Mesh, states: &[u8], random: &mut Random) -> Session {
+    let count = mesh.counted().len();
+    let mut plan = plan(mesh).0;
+    if random.below(3) == 0 {
+        plan = Plan::ZERO;
+        plan.directions[..count].fill_with(|| random.below(2) as u8);
+    }
+    let (mut session, _) = start(mesh, &plan);
+    session.states[..count].fill_with(|| random.pick(states));
+    let share = random.below(5);
+    let nodes = usize::from(mesh.nodes);
+    session.reached[..nodes].fill_with(|| random.below(4) < share);
+    session
+}
+
+/// Links at x that are not quiet are offered all the same by a cut.
+fn before_a_cut(session: Session, mesh: &Mesh, random: &mut Random) -> Script {
+    let mut caller = Caller::on(&session, mesh, random);
+    let calls = [
+        Call::Status(caller.inner_link()),
+        Call::Deliver(caller.under_way().unwrap_or(0)),
+        Call::Run(caller.allowance()),
+        Call::Route,
+    ];
+    let first = caller.random.below(3);
+    caller.make_all(&calls[first..first + 2]);
+    let link = caller.inner_link();
+    caller.make_all(&[Call::Cut(link), Call::Status(link)]);
+    play(&mut caller);
+    caller.script()
+}
+
+/// A cut stands; the calls are of all kinds.
+fn under_a_cut(mut session: Session, mesh: &Mesh, random: &mut Random) -> Script {
+    stand_cut(&mut session, random);
+    let mut caller = Caller::on(&session, mesh, random);
+    let link = caller.inner_link();
+    caller.make_all(&[Call::Route, Call::Status(link)]);
+    play(&mut caller);
+    caller.script()
+}
+
+/// A cut stands; the calls are deliveries up to rest.
+fn delivered(mut session: Session, mesh: &Mesh, random: &mut Random) -> Script {
+    stand_cut(&mut session, random);
+    let mut caller = Caller::on(&session, mesh, random);
+    caller.flood(40);
+    let link = caller.inner_link();
+    caller.make_all(&[Call::Status(link), Call::Route]);
+    let call = caller.mending();
+    caller.make(call);
+    caller.script()
+}
+
+/// A random link is cut, if there is one.
+fn stand_cut(session: &mut Session, random: &mut Random) {
+    if session.mesh.count > 0 {
+        session.cut = Some(random.below(session.mesh.count.into()) as u16);
+    }
+}
+
+fn play(caller: &mut Caller) {
+    let times = caller.random.between(6, 12);
+    caller.jumble(times);
+    if caller.random.below(2) == 0 {
+        caller.make_all(&[Call::Run(u32::MAX), Call::Route]);
+    }
+}
+
+#[cfg(test)]
+mod tests {
+    use super::*;
+
+    #[test]
+    fn each_session_is_well_formed() {
+        for seed in 0..20 {
+            for script in scripts(&mut Random::new(seed)) {
+                assert_eq!(script.begin().0.check(), Ok(()));
+            }
+        }
+    }
+}

@@ -1,0 +1,160 @@
+//! The lines of a script.
+
+use super::Lines;
+use crate::refusal::{in_words, Refusal};
+use crate::script::{Call, Script};
+use crate::session::{Delivery, Run, Session, Status, RELEASED};
+
+impl Lines {
+    pub fn script(&mut self, number: usize, script: &Script) {
+        self.line(&format!("script {number}"));
+        let (mut session, answer) = script.begin();
+        if let Some(answer) = answer {
+            self.answer("start", answer);
+        }
+        for call in &script.calls {
+            self.line(&call_line(&mut session, *call));
+        }
+        self.session(&session);
+    }
+
+    fn session(&mut self, session: &Session) {
+        match session.cut {
+            None => self.line("cut none"),
+            Some(link) => self.line(&format!("cut-is {link}")),
+        }
+        let states: String = session.states.iter().map(|state| digit(*state)).collect();
+        self.line(&format!("states {states}"));
+        let all = (0..).zip(session.reached);
+        let reached = all.filter(|node| node.1).map(|node| node.0);
+        self.digits("reached", &spaced(reached));
+    }
+}
+
+/// Makes a call; gives its line.
+fn call_line(session: &mut Session, call: Call) -> String {
+    match call {
+        Call::Cut(link) => format!("cut {link} {}", in_words(session.cut(link))),
+        Call::Deliver(link) => format!("deliver {link} {}", delivery(session.deliver(link))),
+        Call::Mend(link) => format!("mend {link} {}", in_words(session.mend(link))),
+        Call::Status(link) => format!("status {link} {}", status(session.status(link))),
+        Call::Run(allowance) => format!("run {allowance} {}", run(session.run(allowance))),
+        Call::Route => format!("route {}", route(session.route())),
+    }
+}
+
+/// A delivery's answer in words.
+pub fn delivery(answer: Result<Delivery, Refusal>) -> String {
+    match answer {
+        Ok(Delivery::Taken(node)) => format!("taken {node}"),
+        Ok(Delivery::Turned(node)) => format!("turned {node}"),
+        Ok(Delivery::Released(node)) => format!("released {node}"),
+        Err(refusal) => in_words(Err(refusal)),
+    }
+}
+
+fn status(answer: Result<Status, Refusal>) -> String {
+    match answer {
+        Ok(Status { state, busy, route }) => format!("state {state} busy {busy} route {route}"),
+        Err(refusal) => in_words(Err(refusal)),
+    }
+}
+
+fn run(answer: Result<Run, Refusal>) -> String {
+    match answer {
+        Ok(Run { made, at_rest }) => {
+            let end = if at_rest { "rest" } else { "moving" };
+            format!("made {made} {end}")
+        }
+        Err(refusal) => in_words(Err(refusal)),
+    }
+}
+
+fn route(answer: Result<Vec<u16>, Refusal>) -> String {
+    let words = in_words(answer.as_ref().map(|_| ()).map_err(|refusal| *refusal));
+    let links = spaced(answer.unwrap_or_default().into_iter());
+    format!("{words} {links}").trim_end().to_string()
+}
+
+/// A state as one character, `?` where it is none.
+fn digit(state: u8) -> char {
+    match state {
+        0..=RELEASED => (b'0' + state).into(),
+        _ => '?',
+    }
+}
+
+fn spaced(numbers: impl Iterator<Item = u16>) -> String {
+    let words: Vec<String> = numbers.map(|number| number.to_string()).collect();
+    words.join(" ")
+}
+
+#[cfg(test)]
+mod tests {
+    use crate::case::Case;
+    use crate::listing::listing;
+    use crate::script::{Call, GivenSession, Origin, Script};
+
+    fn listed(origin: Origin, calls: Vec<Call>) -> String {
+        let book = vec![1, 3, 3, 0, 0, 2, 2, 1, 1];
+        let script = Script {
+            book,
+            origin,
+            calls,
+        };
+        listing(&[Case::Script(script)]).unwrap()
+    }
+
+    fn states(first: &str) -> String {
+        format!("states {first:0<256}\n")
+    }
+
+    #[test]
+    fn lists_p2() {
+        let calls = vec![
+            Call::Status(0),
+            Call::Cut(0),
+            Call::Cut(1),
+            Call::Deliver(1),
+            Call::Route,
+            Call::Run(0),
+            Call::Deliver(2),
+            Call::Run(0),
+            Call::Status(2),
+            Call::Route,
+            Call::Mend(3),
+        ];
+        let lines = "script 0\nstart accepted\nstatus 0 state 0 busy 0 route 0\ncut 0 accepted\n\
+            cut 1 refused 22 1\ndeliver 1 taken 2\nroute accepted\nrun 0 made 0 moving\n\
+            deliver 2 taken 1\nrun 0 made 0 rest\nstatus 2 state 2 busy 0 route 2\n\
+            route accepted 1 2\nmend 3 refused 12 3\ncut-is 0\n";
+        let expected = format!("{lines}{}reached 0 1 2\n", states("022"));
+        assert_eq!(listed(Origin::OwnPlan, calls), expected);
+    }
+
+    #[test]
+    fn lists_a_refused_start() {
+        let calls = vec![Call::Run(7), Call::Route, Call::Deliver(0)];
+        let lines = "script 0\nstart refused 13 0\nrun 7 refused 3 0\nroute refused 3 0\n\
+            deliver 0 refused 3 0\ncut none\n";
+        let expected = format!("{lines}{}reached\n", states(""));
+        assert_eq!(listed(Origin::GivenPlan(vec![0, 2]), calls), expected);
+    }
+
+    #[test]
+    fn lists_a_given_session() {
+        let given = GivenSession {
+            directions: vec![1],
+            cut: Some(65_534),
+            states: vec![(1, 4), (2, 255)],
+            reached: vec![2, 63],
+            links: Vec::new(),
+            nodes: 3,
+            count: 3,
+        };
+        let origin = Origin::GivenSession(Box::new(given));
+        let lines = "script 0\nstatus 9 refused 13 0\ncut-is 65534\n";
+        let expected = format!("{lines}{}reached 2 63\n", states("04?"));
+        assert_eq!(listed(origin, vec![Call::Status(9)]), expected);
+    }
+}

@@ -1,0 +1,120 @@
+//! A script: a list of calls on a session.
+
+mod bytes;
+
+pub use bytes::{read_script, write_script};
+
+use crate::book::decode;
+use crate::mesh::{Link, Mesh, MOST_LINKS};
+use crate::plan::{plan, Plan};
+use crate::refusal::Answer;
+use crate::session::{start, Session};
+
+#[derive(Clone, Debug, PartialEq, Eq)]
+pub struct Script {
+    /// An accepted book.
+    pub book: Vec<u8>,
+    pub origin: Origin,
+    pub calls: Vec<Call>,
+}
+
+/// The session that the first call gets.
+#[derive(Clone, Debug, PartialEq, Eq)]
+pub enum Origin {
+    /// A start on the mesh's own plan; on zeros where planning refuses.
+    OwnPlan,
+    /// A start on these directions, at most 256, and zeros past them.
+    GivenPlan(Vec<u8>),
+    /// A session as it is, with no start.
+    GivenSession(Box<GivenSession>),
+}
+
+/// A session by what is not zero in it, and the changes of the book's mesh.
+#[derive(Clone, Debug, PartialEq, Eq)]
+pub struct GivenSession {
+    pub directions: Vec<u8>,
+    /// No cut is 65,535 in a script's bytes.
+    pub cut: Option<u16>,
+    pub states: Vec<(u8, u8)>,
+    pub reached: Vec<u8>,
+    pub links: Vec<(u8, Link)>,
+    pub nodes: u8,
+    pub count: u16,
+}
+
+#[derive(Clone, Copy, Debug, PartialEq, Eq)]
+pub enum Call {
+    Cut(u16),
+    Deliver(u16),
+    Mend(u16),
+    Status(u16),
+    Run(u32),
+    Route,
+}
+
+impl Script {
+    /// The session that the first call gets, and the answer of its start.
+    pub fn begin(&self) -> (Session, Option<Answer>) {
+        self.origin.session(&decode(&self.book).0)
+    }
+}
+
+impl Origin {
+    /// The session on this mesh, and the answer of its start.
+    pub fn session(&self, mesh: &Mesh) -> (Session, Option<Answer>) {
+        let plan = match self {
+            Origin::OwnPlan => plan(mesh).0,
+            Origin::GivenPlan(directions) => plan_of(directions),
+            Origin::GivenSession(given) => return (given.session(mesh), None),
+        };
+        let (session, answer) = start(mesh, &plan);
+        (session, Some(answer))
+    }
+}
+
+impl GivenSession {
+    /// What makes this session from a mesh.
+    pub fn of(session: &Session, mesh: &Mesh) -> GivenSession {
+        let directions = &session.plan.directions;
+        let last = directions.iter().rposition(|direction| *direction != 0);
+        let states = (0..=255).zip(session.states);
+        let reached = (0..).zip(session.reached);
+        let links = (0..=255).zip(session.mesh.links);
+        let differs = |(index, link): &(u8, Link)| *link != mesh.links[usize::from(*index)];
+        GivenSession {
+            directions: directions[..last.map_or(0, |last| last + 1)].to_vec(),
+            cut: session.cut,
+            states: states.filter(|(_, state)| *state != 0).collect(),
+            reached: reached.filter(|node| node.1).map(|node| node.0).collect(),
+            links: links.filter(differs).collect(),
+            nodes: session.mesh.nodes,
+            count: session.mesh.count,
+        }
+    }
+
+    fn session(&self, mesh: &Mesh) -> Session {
+        let (mut session, _) = start(&Mesh::ZERO, &Plan::ZERO);
+        session.mesh = mesh.clone();
+        for (index, link) in &self.links {
+            session.mesh.links[usize::from(*index)] = *link;
+        }
+        session.mesh.nodes = self.nodes;
+        session.mesh.count = self.count;
+        session.plan = plan_of(&self.directions);
+        session.cut = self.cut;
+        for (index, state) in &self.states {
+            session.states[usize::from(*index)] = *state;
+        }
+        for node in &self.reached {
+            session.reached[usize::from(*node)] = true;
+        }
+        session
+    }
+}
+
+/// The plan with these directions, at most 256, and zeros past them.
+fn plan_of(directions: &[u8]) -> Plan {
+    let mut all = [0; MOST_LINKS];
+    all[..directions.len()].copy_from_slice(directions);
+    Plan { directions: all }
+}

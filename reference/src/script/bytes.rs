@@ -1,0 +1,154 @@
+//! The bytes of a script, without the byte that tells its kind.
+
+use super::{Call, GivenSession, Origin, Script};
+use crate::book::decode;
+use crate::mesh::{Link, MOST_LINKS, MOST_NODES};
+use crate::reader::Reader;
+
+const OWN_PLAN: u8 = 0;
+const GIVEN_PLAN: u8 = 1;
+const GIVEN_SESSION: u8 = 2;
+
+const CUT: u8 = b'C';
+const DELIVER: u8 = b'D';
+const MEND: u8 = b'M';
+const STATUS: u8 = b'T';
+const RUN: u8 = b'R';
+const ROUTE: u8 = b'Q';
+
+const NO_CUT: u16 = 65_535;
+
+pub fn write_script(script: &Script, output: &mut Vec<u8>) {
+    output.extend((script.book.len() as u16).to_le_bytes());
+    output.extend(&script.book);
+    match &script.origin {
+        Origin::OwnPlan => output.push(OWN_PLAN),
+        Origin::GivenPlan(directions) => {
+            output.push(GIVEN_PLAN);
+            write_directions(directions, output);
+        }
+        Origin::GivenSession(given) => {
+            output.push(GIVEN_SESSION);
+            write_session(given, output);
+        }
+    }
+    output.extend((script.calls.len() as u16).to_le_bytes());
+    for call in &script.calls {
+        write_call(*call, output);
+    }
+}
+
+fn write_directions(directions: &[u8], output: &mut Vec<u8>) {
+    output.extend((directions.len() as u16).to_le_bytes());
+    output.extend(directions);
+}
+
+fn write_session(given: &GivenSession, output: &mut Vec<u8>) {
+    write_directions(&given.directions, output);
+    output.extend(given.cut.unwrap_or(NO_CUT).to_le_bytes());
+    output.extend((given.states.len() as u16).to_le_bytes());
+    for (index, state) in &given.states {
+        output.extend([index, state]);
+    }
+    output.push(given.reached.len() as u8);
+    output.extend(&given.reached);
+    output.push(given.links.len() as u8);
+    for (index, link) in &given.links {
+        output.extend([*index, link.low, link.high]);
+        output.extend(link.length.to_le_bytes());
+        output.extend(link.pair.to_le_bytes());
+    }
+    output.push(given.nodes);
+    output.extend(given.count.to_le_bytes());
+}
+
+fn write_call(call: Call, output: &mut Vec<u8>) {
+    let (kind, link) = match call {
+        Call::Cut(link) => (CUT, link),
+        Call::Deliver(link) => (DELIVER, link),
+        Call::Mend(link) => (MEND, link),
+        Call::Status(link) => (STATUS, link),
+        Call::Run(allowance) => {
+            output.push(RUN);
+            return output.extend(allowance.to_le_bytes());
+        }
+        Call::Route => return output.push(ROUTE),
+    };
+    output.push(kind);
+    output.extend(link.to_le_bytes());
+}
+
+/// None if the bytes are ill-formed or the book is refused.
+pub fn read_script(reader: &mut Reader) -> Option<Script> {
+    let length = reader.two()?;
+    let book = reader.take(length.into())?.to_vec();
+    decode(&book).1.ok()?;
+    let origin = match reader.one()? {
+        OWN_PLAN => Origin::OwnPlan,
+        GIVEN_PLAN => Origin::GivenPlan(read_directions(reader)?),
+        GIVEN_SESSION => Origin::GivenSession(Box::new(read_session(reader)?)),
+        _ => return None,
+    };
+    let count = reader.two()?;
+    let calls: Option<Vec<Call>> = (0..count).map(|_| read_call(reader)).collect();
+    Some(Script {
+        book,
+        origin,
+        calls: calls?,
+    })
+}
+
+fn read_directions(reader: &mut Reader) -> Option<Vec<u8>> {
+    let count = usize::from(reader.two()?);
+    let directions = reader.take(count)?.to_vec();
+    (count <= MOST_LINKS).then_some(directions)
+}
+
+fn read_session(reader: &mut Reader) -> Option<GivenSession> {
+    let directions = read_directions(reader)?;
+    let cut = Some(reader.two()?).filter(|cut| *cut != NO_CUT);
+    let count = reader.two()?;
+    let states: Option<Vec<(u8, u8)>> = (0..count).map(|_| read_state(reader)).collect();
+    let count = reader.one()?;
+    let reached = reader.take(count.into())?.to_vec();
+    let count = reader.one()?;
+    let links: Option<Vec<(u8, Link)>> = (0..count).map(|_| read_link(reader)).collect();
+    let given = GivenSession {
+        directions,
+        cut,
+        states: states?,
+        reached,
+        links: links?,
+        nodes: reader.one()?,
+        count: reader.two()?,
+    };
+    let are_nodes = given.reached.iter().all(|node| *node < MOST_NODES);
+    are_nodes.then_some(given)
+}
+
+fn read_state(reader: &mut Reader) -> Option<(u8, u8)> {
+    Some((reader.one()?, reader.one()?))
+}
+
+fn read_link(reader: &mut Reader) -> Option<(u8, Link)> {
+    let index = reader.one()?;
+    let link = Link {
+        low: reader.one()?,
+        high: reader.one()?,
+        length: reader.two()?,
+        pair: reader.four()?,
+    };
+    Some((index, link))
+}
+
+fn read_call(reader: &mut Reader) -> Option<Call> {
+    match reader.one()? {
+        CUT => reader.two().map(Call::Cut),
+        DELIVER => reader.two().map(Call::Deliver),
+        MEND => reader.two().map(Call::Mend),
+        STATUS => reader.two().map(Call::Status),
+        RUN => reader.four().map(Call::Run),
+        ROUTE => Some(Call::Route),
+        _ => None,
+    }
+}
