@@ -21,7 +21,13 @@ use Rattle.graph.specs.Laws.First.{first-unique}
 use Rattle.planner.specs.Plan.{netOf, planned}
 use Rattle.planner.specs.Meaning.{NoPath, LinkParts, FirstPlan}
 use Rattle.planner.specs.Laws.Meaning.{plan-refuses, plan-first, plan-numbers}
+use Rattle.mesh.specs.declared.Plan.{Plan}
 use Rattle.recovery.specs.declared.Cut.the-variants.{Link}
+use Rattle.recovery.specs.declared.Session.{Session}
+use Rattle.recovery.specs.Formed.{startAnswer, recordAnswer}
+use Rattle.recovery.specs.WellFormed.{PlanFormed, Formed}
+use Rattle.recovery.specs.WellFormed as formed
+use Rattle.recovery.specs.Laws.Forming.{start-formed, refused-start, record-formed, refused-record}
 use Rattle.recovery.specs.Calls.{digraph, routeOf}
 use Rattle.recovery.specs.History.{Call}
 use Rattle.recovery.specs.Demand.{Demand3, AtRest, OnePath, ended, log}
@@ -93,6 +99,23 @@ plan-places = plan-numbers
 -- there is only one such assignment
 pub plan-unique : (m : Mesh) (p q : List ℕ) → First (netOf m) p → First (netOf m) q → p ≡ q
 plan-unique m = first-unique
+
+-- ---- demand 1: a session's record (contracts: crates/recovery/src/lib.rt, the calls of `Session`)
+
+-- a start accepts exactly a well-formed mesh with a well-formed plan; any other is refused on its own condition
+pub start-accepts : (m : Mesh) (p : Plan) → InRange m → (startAnswer m p ≡ Accepted) ↔ (WellFormed m × PlanFormed m p)
+start-accepts m p r = start-formed m p (r .entries)
+
+pub start-refuses : (m : Mesh) (p : Plan) (number place : ℕ) → startAnswer m p ≡ Refused number place → formed.Refusal m (PlanFormed m p) number place
+start-refuses m p number place = refused-start m p
+
+-- the test of a session's record accepts exactly the well-formed ones
+pub record-accepts : (s : Session) → InRange (s .mesh) → (recordAnswer s ≡ Accepted) ↔ Formed s
+record-accepts s r = record-formed s (r .entries)
+
+-- it refuses with the mesh's own refusal, or with 13 at 0 where the mesh is accepted and the record is ill-formed
+pub record-refuses : (s : Session) (number place : ℕ) → recordAnswer s ≡ Refused number place → formed.Refusal (s .mesh) (Formed s) number place
+record-refuses s number place = refused-record s
 
 -- ---- demand 3, over every list of calls (contracts: crates/recovery/src/lib.rt, the calls of `Session`)
 

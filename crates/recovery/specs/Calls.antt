@@ -164,7 +164,7 @@ statusAs (Refused number place) s k = status.Refused number place
 unfoldable pub statusOf : Session → ℕ → Status
 statusOf s k = statusAs (statusAnswer s k) s k
 
--- the taken links from x on at rest under a cut, else none
+-- the taken links from x on at rest, else none (read only where a cut stands: `routed` refuses 23 first)
 unfoldable pub routeOf : Session → List ℕ
 routeOf s = cond (resting s) (routeFrom (digraph s) (s .mesh .count) (failure s .source) (s .flood .states)) []
 
