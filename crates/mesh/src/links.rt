@@ -30,31 +30,25 @@ pub(crate) fn links_answer(m: Mesh) -> Answer
     Answer::Accepted
 }
 
+// Reads the fields as one number, as they stand in memory, so that the compiler makes one test of it.
 fn is_zero(l: Link) -> bool
     ensures { λ r. ⌜ r ≡ isZero l ⌝ }
 {
-    if l.low == 0 {
-        if l.high == 0 {
-            if l.length == 0 {
-                return l.pair == 0;
-            }
-        }
-    }
-    false
+    let ends = l.low as u64 + 256 * (l.high as u64);
+    ends + 65536 * (l.length as u64) + 4294967296 * (l.pair as u64) == 0
 }
 
-// Whether each entry past the last link is zero.
+// Whether each entry past the last link is zero. No branch in the loop, so that the compiler can test several entries at once.
 pub(crate) fn rest_is_zero(m: Mesh) -> bool
     requires { ⌜ m .count ≤ 256 ⌝ }
     ensures { λ r. ⌜ r ≡ allZero (drop (m .count) (m .links)) ⌝ }
 {
+    let mut clear = true;
     let mut i = m.count as usize;
     while i < 256 {
         let l = m.links[i];
-        if !is_zero(l) {
-            return false;
-        }
+        clear = clear & is_zero(l);
         i += 1;
     }
-    true
+    clear
 }

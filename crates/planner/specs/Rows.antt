@@ -1,10 +1,11 @@
 -- Arcs between 64 nodes as rows of binary digits: row u has the digit v where an arc leads from u to v. Definitions only.
 use Prim.Native.Nat.{ℕ, _^_}
 use mathlib.Core.Path.{_≡_}
+use mathlib.Core.Logic.{_↔_}
 use mathlib.Core.Bool.{Bool, true}
 use mathlib.Core.List.{List}
 use lib.ListN.{getD, set}
-use lib.Bits.{bitAnd, bitOr, bitXor}
+use lib.Bits.{bitOr, bitXor}
 use Rattle.scan.specs.Bits.{has}
 use Rattle.graph.specs.Walk.{Walk}
 
@@ -21,19 +22,26 @@ put rows a b = set rows a (bitOr (getD rows a 0) (2 ^ b))
 unfoldable pub flip : List ℕ → ℕ → ℕ → List ℕ
 flip rows a b = set rows a (bitXor (getD rows a 0) (2 ^ b))
 
--- r holds nodes that a walk from u comes to; all of them where none of them is a goal
-pub record Spread (rows : List ℕ) (u goal r : ℕ) : Type 0 where
+-- the second table has the same arcs by the node that they enter: its row v has the digit u where an arc leads from u to v
+abbrev pub Mirror : List ℕ → List ℕ → Type 0
+Mirror leaving entering = (u v : ℕ) → Edge leaving u v ↔ Edge entering v u
+
+-- r holds just the nodes that a walk from u comes to
+pub record Spread (rows : List ℕ) (u r : ℕ) : Type 0 where
   pub start : has r u ≡ true
   pub sound : (v : ℕ) → has r v ≡ true → Walk (Edge rows) u v
-  pub closed : bitAnd r goal ≡ 0 → (v w : ℕ) → has r v ≡ true → Edge rows v w → has r w ≡ true
+  pub closed : (v w : ℕ) → has r v ≡ true → Edge rows v w → has r w ≡ true
 
 -- a link's two arcs taken out
 abbrev pub cut : List ℕ → ℕ → ℕ → List ℕ
 cut rows a b = flip (flip rows a b) b a
 
--- what a link gets: 0 where a walk leads back from its high end to its low end without it, else 1 where one leads from its low end to its
--- high end, else 2, no direction
-pub data Directed (rows : List ℕ) (low high : ℕ) : ℕ → List ℕ → Type 0 where
-  up : Walk (Edge (cut rows low high)) high low → Directed rows low high 0 (put (cut rows low high) low high)
-  down : ¬ Walk (Edge (cut rows low high)) high low → Walk (Edge (cut rows low high)) low high → Directed rows low high 1 (put (cut rows low high) high low)
-  stuck : ¬ Walk (Edge (cut rows low high)) high low → ¬ Walk (Edge (cut rows low high)) low high → Directed rows low high 2 (cut rows low high)
+-- what a link gets, and the two tables after it: 0 where a walk leads back from its high end to its low end without it, else 1 where one leads from its
+-- low end to its high end, else 2, no direction
+pub data Directed (leaving entering : List ℕ) (low high : ℕ) : ℕ → List ℕ → List ℕ → Type 0 where
+  up : Walk (Edge (cut leaving low high)) high low
+      → Directed leaving entering low high 0 (put (cut leaving low high) low high) (put (cut entering low high) high low)
+  down : ¬ Walk (Edge (cut leaving low high)) high low → Walk (Edge (cut leaving low high)) low high
+      → Directed leaving entering low high 1 (put (cut leaving low high) high low) (put (cut entering low high) low high)
+  stuck : ¬ Walk (Edge (cut leaving low high)) high low → ¬ Walk (Edge (cut leaving low high)) low high
+      → Directed leaving entering low high 2 (cut leaving low high) (cut entering low high)

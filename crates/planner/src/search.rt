@@ -42,7 +42,7 @@ pub(crate) fn lowest_unreached(m: Mesh, table: &[u64; 64]) -> u8
     ensures { λ r. ⌜ r ≡ lowest (unreached (netOf m)) (m .nodes) ⌝ }
 {
     let nodes = m.nodes;
-    let reached = rows::spread(table, 0, 0);
+    let reached = rows::spread(table, 0);
     let mut v: u8 = 0;
     while v < nodes {
         if !rows::has_node(reached, v) {
@@ -59,13 +59,14 @@ pub(crate) fn all_directions(m: Mesh, ways: [u64; 64]) -> Directions
     ensures { λ r. ⌜ Directs m (r .directions) (r .bridge) ⌝ }
 {
     let count = m.count;
-    let mut table = ways;
+    let mut leaving = ways;
+    let mut entering = ways;
     let mut directions = [0u8; 256];
     let mut k: u16 = 0;
     while k < count {
         let i = k as usize;
         let l = m.links[i];
-        let d = rows::direct(&mut table, l.low, l.high);
+        let d = rows::direct(&mut leaving, &mut entering, l.low, l.high);
         if d == rows::STUCK {
             return Directions {
                 directions,

@@ -1,7 +1,7 @@
 -- What one turn of a loop over the links does to the checks. Serves the proofs of `links_answer` and `rest_is_zero`. Assumes nothing.
 use Prim.Native.Nat.{ℕ, _+_, _≤_, _<_}
-use mathlib.Core.Path.{_≡_, _∙_}
-use mathlib.Core.Bool.{true, false, _&&_}
+use mathlib.Core.Path.{_≡_, refl, _∙_}
+use mathlib.Core.Bool.{Bool, true, false, _&&_}
 use mathlib.Core.List.{List}
 use native.Mathlib.Numerals.{add-one}
 use lib.ListN.{length, getD, take, drop, drop-of-length-le}
@@ -37,13 +37,13 @@ module _ (links : List Link) (i : ℕ) where
   unfolding allZero
   zero-step h = rw (drop-cons links i zeroLink h, add-one i)
 
-  -- entry i is zero, or not, or there is none
-  pub zero-next : i < length links → isZero (getD links i zeroLink) ≡ true → allZero (drop i links) ≡ allZero (drop (i + 1) links)
-  zero-next h e = zero-step h ∙ rw e
+  -- entry i is looked at, or there is none; b says whether the entries before it are zero
+  pub zero-next : (b : Bool) → i < length links
+      → (b && allZero (drop i links)) ≡ ((b && isZero (getD links i zeroLink)) && allZero (drop (i + 1) links))
+  zero-next true h = zero-step h
+  zero-next false h = refl
 
-  pub zero-refused : i < length links → isZero (getD links i zeroLink) ≡ false → allZero (drop i links) ≡ false
-  zero-refused h e = zero-step h ∙ rw e
-
-  pub zero-end : length links ≤ i → allZero (drop i links) ≡ true
+  pub zero-end : (b : Bool) → length links ≤ i → (b && allZero (drop i links)) ≡ b
   unfolding allZero
-  zero-end h = rw (drop-of-length-le links h)
+  zero-end true h = rw (drop-of-length-le links h)
+  zero-end false h = refl

@@ -1,9 +1,9 @@
--- The pass over the links as the code makes it: link k's two ways are shut in the rows, and by what the searches then say one of them is opened again, which is
+-- The pass over the links as the code makes it: link k's two ways are shut in both tables, and by what the searches then say one of them is opened again, which is
 -- the greedy direction, or link k is a bridge. Assumes nothing.
 use Prim.Native.Nat.{ℕ, suc, _+_, _-_, _<_, _≤_}
 use mathlib.Core.Path.{_≡_, refl, sym, _∙_, ap}
 use mathlib.Core.Logic.{Iff·symm, Iff·trans}
-use mathlib.Core.Bool.{Bool, true, false, not, true≢false}
+use mathlib.Core.Bool.{Bool, true, false, not}
 use mathlib.Core.List.{List, [], _∷_, _++_, append-assoc}
 use native.Mathlib.Omega.{arith}
 use native.Mathlib.Numerals.{add-one}
@@ -19,51 +19,47 @@ use Rattle.graph.specs.Greedy.{greedy, direction, begun, bridge}
 use Rattle.graph.specs.Laws.Bridge.{unbridged-up, unbridged-down, bridge-parts}
 use Rattle.graph.specs.Laws.Pass.{greedy-length, begun-late, begun-next, next-up, next-down, stuck-bridge}
 use Rattle.planner.specs.Plan.{netOf}
-use Rattle.planner.specs.Rows.{put, cut, Directed, up, down, stuck}
+use Rattle.planner.specs.Rows.{Mirror, put, cut, Directed, up, down, stuck}
 use Rattle.planner.specs.Search.{Table, Directs}
 use Rattle.planner.specs.Laws.Fits.{well-formed-fits, Simple, simple}
-use Rattle.planner.specs.Laws.Tables.{opened-says, shut, shut-says, shut-both, to-leads, from-leads, same-ways, put-way, flip-way}
+use Rattle.planner.specs.Laws.Tables.{opened-says, to-leads, from-leads, Tables, both-tables, mirror, same-tables, put-tables, cut-tables}
 
 -- ---- one link
 
-module _ {G : Net} (F : Fits G) (n : G .nodes ≤ 64) (S : Simple G) (k : ℕ) (h : k < G .links) {t : List ℕ} (T : Table G (begun G k) t) where
+module _ {G : Net} (F : Fits G) (n : G .nodes ≤ 64) (S : Simple G) (k : ℕ) (h : k < G .links) {t e : List ℕ} (T : Tables G (begun G k) t e) where
   abbrev rest : Ways
   rest = without k (begun G k)
 
-  cut-table : Table G rest (cut t (G .low k) (G .high k))
-  cut-table = same-ways (flip-way (flip-way T F n k h false S (both false)) F n k h true S other) rest (λ i d l. shut-both k (begun G k) i d)
-    where
-      both : (d : Bool) → begun G k k d ≡ true
-      both d = begun-late G k k d (le-refl k)
-
-      other : shut k false (begun G k) k true ≡ true
-      other = shut-says k false (begun G k) k true .1 (both true, λ (_, e). true≢false e)
+  pub rest-tables : Tables G rest (cut t (G .low k) (G .high k)) (cut e (G .low k) (G .high k))
+  rest-tables = cut-tables T F n k h S (λ d. begun-late G k k d (le-refl k))
 
   -- the link's direction opens its way again
-  put-table : (d : Bool) → direction G k ≡ code d → Table G (begun G (suc k)) (put (cut t (G .low k) (G .high k)) (end G k d) (end G k (not d)))
-  put-table d e =
-      same-ways (put-way cut-table F n k h d) (begun G (suc k)) (λ i b l. Iff·trans (begun-next G k d e i b) (Iff·symm (opened-says k d rest i b)))
+  next-tables : (d : Bool) → direction G k ≡ code d
+      → Tables G (begun G (suc k)) (put (cut t (G .low k) (G .high k)) (end G k d) (end G k (not d)))
+      (put (cut e (G .low k) (G .high k)) (end G k (not d)) (end G k d))
+  next-tables d q =
+      same-tables (put-tables rest-tables F n k h d) (begun G (suc k)) (λ i b l. Iff·trans (begun-next G k d q i b) (Iff·symm (opened-says k d rest i b)))
 
   -- the link got the direction d
-  record Given (d : ℕ) (x : List ℕ) : Type 0 where
+  record Given (d : ℕ) (x y : List ℕ) : Type 0 where
     direction-is : d ≡ direction G k
     unbridged : bridge G k ≡ false
-    after : Table G (begun G (suc k)) x
+    after : Tables G (begun G (suc k)) x y
 
-  given : {d : ℕ} {x : List ℕ} → Directed t (G .low k) (G .high k) d x → (d ≡ 2 → ⊥) → Given d x
+  given : {d : ℕ} {x y : List ℕ} → Directed t e (G .low k) (G .high k) d x y → (d ≡ 2 → ⊥) → Given d x y
   given (up w) n =
-      let p = to-leads cut-table w in
-      let e = next-up F k h p in
-      record { direction-is = sym e; unbridged = unbridged-up F k h (begun G k) p; after = put-table false e }
+      let p = to-leads (rest-tables .out) w in
+      let q = next-up F k h p in
+      record { direction-is = sym q; unbridged = unbridged-up F k h (begun G k) p; after = next-tables false q }
   given (down v w) n =
-      let e = next-down F k h (λ p. v (from-leads cut-table p)) in
-      record { direction-is = sym e; unbridged = unbridged-down F k h (begun G k) (to-leads cut-table w); after = put-table true e }
+      let q = next-down F k h (λ p. v (from-leads (rest-tables .out) p)) in
+      record { direction-is = sym q; unbridged = unbridged-down F k h (begun G k) (to-leads (rest-tables .out) w); after = next-tables true q }
   given (stuck v w) n = absurd (n refl)
 
-  ungiven : Strong G bothWays → None (bridge G) k → {d : ℕ} {x : List ℕ} → Directed t (G .low k) (G .high k) d x → d ≡ 2 → bridge G k ≡ true
-  ungiven c f (up w) e = absurd (omega arith)
-  ungiven c f (down v w) e = absurd (omega arith)
-  ungiven c f (stuck v w) e = stuck-bridge F c k h f (λ p. v (from-leads cut-table p)) (λ p. w (from-leads cut-table p))
+  ungiven : Strong G bothWays → None (bridge G) k → {d : ℕ} {x y : List ℕ} → Directed t e (G .low k) (G .high k) d x y → d ≡ 2 → bridge G k ≡ true
+  ungiven c f (up w) q = absurd (omega arith)
+  ungiven c f (down v w) q = absurd (omega arith)
+  ungiven c f (stuck v w) q = stuck-bridge F c k h f (λ p. v (from-leads (rest-tables .out) p)) (λ p. w (from-leads (rest-tables .out) p))
 
 -- ---- all links
 
@@ -79,29 +75,33 @@ directions-next G k h =
     rw (z, add-one k) (set-at (greedy G k) 0 zeros (direction G k) k (greedy-length G k) ∙ sym (append-assoc (greedy G k) (direction G k ∷ []) zeros))
 
 -- where the pass stands at link k
-pub record Directing (m : Mesh) (t q : List ℕ) (k : ℕ) : Type 0 where
+pub record Directing (m : Mesh) (t e q : List ℕ) (k : ℕ) : Type 0 where
   pub within : k ≤ m .count
-  pub table : Table (netOf m) (begun (netOf m) k) t
+  pub tables : Tables (netOf m) (begun (netOf m) k) t e
   pub unbridged : None (bridge (netOf m)) k
   pub directions-are : q ≡ directions (netOf m) k
 
-pub directing-start : {m : Mesh} {t : List ℕ} → Table (netOf m) bothWays t → Directing m t (replicate 256 0) 0
+pub directing-start : {m : Mesh} {t : List ℕ} → Table (netOf m) bothWays t → Directing m t t (replicate 256 0) 0
 unfolding greedy
 directing-start {m} T = record {
   within = omega arith;
-  table = same-ways T (begun (netOf m) 0) (λ i d l. (λ _. refl, λ _. begun-late (netOf m) 0 i d (omega arith)));
+  tables = same-tables (both-tables T) (begun (netOf m) 0) (λ i d l. (λ _. refl, λ _. begun-late (netOf m) 0 i d (omega arith)));
   unbridged = none-yet _;
   directions-are = refl;
 }
 
-module _ {m : Mesh} (W : WellFormed m) {t q : List ℕ} {k : ℕ} (D : Directing m t q k) where
-  module _ (h : k < m .count) {d : ℕ} {x : List ℕ} (A : Directed t (link m k .low) (link m k .high) d x) where
-    pub directing-next : (d ≡ 2 → ⊥) → Directing m x (set q k d) (k + 1)
+module _ {m : Mesh} (W : WellFormed m) {t e q : List ℕ} {k : ℕ} (D : Directing m t e q k) where
+  -- without link k's ways the second table still has the arcs of the first
+  pub cut-mirror : k < m .count → Mirror (cut t (link m k .low) (link m k .high)) (cut e (link m k .low) (link m k .high))
+  cut-mirror h = mirror (rest-tables (well-formed-fits W) (W .nodes-most) (simple W) k h (D .tables))
+
+  module _ (h : k < m .count) {d : ℕ} {x y : List ℕ} (A : Directed t e (link m k .low) (link m k .high) d x y) where
+    pub directing-next : (d ≡ 2 → ⊥) → Directing m x y (set q k d) (k + 1)
     directing-next n =
-        let g = given (well-formed-fits W) (W .nodes-most) (simple W) k h (D .table) A n in
+        let g = given (well-formed-fits W) (W .nodes-most) (simple W) k h (D .tables) A n in
         record {
           within = omega arith;
-          table = rw (add-one k) (g .after);
+          tables = rw (add-one k) (g .after);
           unbridged = none-next (bridge (netOf m)) k (D .unbridged) (g .unbridged);
           directions-are = rw (D .directions-are, g .direction-is) (directions-next (netOf m) k (omega (arith, W .count-most)));
         }
@@ -114,15 +114,15 @@ module _ {m : Mesh} (W : WellFormed m) {t q : List ℕ} {k : ℕ} (D : Directing
     whole : None (parts (netOf m)) k
     whole j l = parts-is j (omega (arith, D .within)) ∙ D .unbridged j l
 
-    pub directs-bridge : k < m .count → {d : ℕ} {x : List ℕ} → Directed t (link m k .low) (link m k .high) d x → d ≡ 2 → Directs m q k
-    directs-bridge h A e =
-        let b = ungiven (well-formed-fits W) (W .nodes-most) (simple W) k h (D .table) joined (D .unbridged) A e in
+    pub directs-bridge : k < m .count → {d : ℕ} {x y : List ℕ} → Directed t e (link m k .low) (link m k .high) d x y → d ≡ 2 → Directs m q k
+    directs-bridge h A z =
+        let b = ungiven (well-formed-fits W) (W .nodes-most) (simple W) k h (D .tables) joined (D .unbridged) A z in
         record { bridge-is = sym (lowest-found (parts (netOf m)) (m .count) k h whole (parts-is k h ∙ b)); directions-are = λ l. absurd (omega arith) }
 
     pub directs-all : m .count ≤ k → Directs m q k
     directs-all h =
-        let e : k ≡ m .count = omega (arith, D .within) in
+        let z : k ≡ m .count = omega (arith, D .within) in
         record {
-          bridge-is = e ∙ sym (lowest-none (parts (netOf m)) (m .count) k h whole);
-          directions-are = λ _. D .directions-are ∙ ap (directions (netOf m)) e;
+          bridge-is = z ∙ sym (lowest-none (parts (netOf m)) (m .count) k h whole);
+          directions-are = λ _. D .directions-are ∙ ap (directions (netOf m)) z;
         }

@@ -1,18 +1,19 @@
--- Rows that have the net's open ways: walks along the rows are walks of the net, and the rows follow when one way of a link is opened or shut. Assumes nothing.
+-- Rows that have the net's open ways: walks along the rows are walks of the net, and the rows follow when one way of a link is opened or shut. The same of two
+-- tables, of which the second has the ways by the nodes that they enter. Assumes nothing.
 use Prim.Native.Nat.{ℕ, _<_, _≤_}
 use mathlib.Core.Path.{_≡_, refl, sym, _∙_, ap}
 use mathlib.Core.Logic.{_⊎_, inl, inr, ⊎-elim, ⊎-map, _↔_, Iff·rfl}
-use mathlib.Core.Bool.{Bool, true, false, not, _&&_, _||_}
+use mathlib.Core.Bool.{Bool, true, false, not, _&&_, _||_, true≢false, Bool·not-not}
 use mathlib.Core.List.{List}
 use native.Mathlib.Omega.{arith}
 use lib.ListN.{length}
 use lib.Dec.{eqb}
 use Rattle.scan.specs.Test.{known, Says, eq-says, and-says, or-says, denies}
 use Rattle.graph.specs.Walk.{Walk, one, replace}
-use Rattle.graph.specs.Net.{Net, Fits, end, Ways, Leads, without, code}
-use Rattle.graph.specs.Laws.Arcs.{end-below, arc, reopen, without-free, without-open}
+use Rattle.graph.specs.Net.{Net, Fits, end, Ways, Leads, bothWays, without, code}
+use Rattle.graph.specs.Laws.Arcs.{end-below, arc, reopen, turn, without-free, without-open}
 use Rattle.graph.specs.Laws.Pass.{code-inj}
-use Rattle.planner.specs.Rows.{Edge, put, flip}
+use Rattle.planner.specs.Rows.{Edge, Mirror, put, flip, cut}
 use Rattle.planner.specs.Search.{Table}
 use Rattle.planner.specs.Laws.Edges.{length-put, length-flip, put-edge, flip-edge}
 use Rattle.planner.specs.Laws.Fits.{Simple}
@@ -112,3 +113,55 @@ module _ {G : Net} {w : Ways} {rows : List ℕ} (T : Table G w rows) where
             into (T .ways u v .1 (reopen a f), λ (s, t). n (S (a .link) k (a .way) d (a .below) h (sym (a .starts) ∙ s) (sym (a .ends) ∙ t))),
       );
     }
+
+-- both ways of link k shut
+cut-way : {G : Net} {w : Ways} {rows : List ℕ} → Table G w rows → Fits G → G .nodes ≤ 64 → (k : ℕ) → k < G .links → Simple G
+    → ((d : Bool) → w k d ≡ true) → Table G (without k w) (cut rows (G .low k) (G .high k))
+cut-way {w = w} T F n k h S on =
+    same-ways (flip-way (flip-way T F n k h false S (on false)) F n k h true S other) (without k w) (λ i d l. shut-both k w i d)
+  where
+    other : shut k false w k true ≡ true
+    other = shut-says k false w k true .1 (on true, λ (_, e). true≢false e)
+
+-- ---- two tables
+
+-- the ways turned round
+abbrev turnedWays : Ways → Ways
+turnedWays w i d = w i (not d)
+
+opened-turned : (k : ℕ) (d : Bool) (w : Ways) (i : ℕ) (e : Bool) → opened k d w i (not e) ≡ opened k (not d) (turnedWays w) i e
+opened-turned k true w i true = refl
+opened-turned k true w i false = refl
+opened-turned k false w i true = refl
+opened-turned k false w i false = refl
+
+-- the net's open ways by the nodes that they leave, and by those that they enter
+pub record Tables (G : Net) (w : Ways) (leaving entering : List ℕ) : Type 0 where
+  pub out : Table G w leaving
+  into : Table G (turnedWays w) entering
+
+-- all ways are the same turned round
+pub both-tables : {G : Net} {rows : List ℕ} → Table G bothWays rows → Tables G bothWays rows rows
+both-tables T = record { out = T; into = T }
+
+module _ {G : Net} {w : Ways} {leaving entering : List ℕ} (T : Tables G w leaving entering) where
+  pub mirror : Mirror leaving entering
+  mirror u v = (
+    λ e. let a = T .out .ways u v .0 e in T .into .ways v u .1 (turn a (rw Bool·not-not (a .free))),
+    λ e. let a = T .into .ways v u .0 e in T .out .ways u v .1 (turn a (a .free)),
+  )
+
+  pub same-tables : (x : Ways) → ((i : ℕ) (d : Bool) → i < G .links → (x i d ≡ true) ↔ (w i d ≡ true)) → Tables G x leaving entering
+  same-tables x f = record { out = same-ways (T .out) x f; into = same-ways (T .into) (turnedWays x) (λ i d. f i (not d)) }
+
+  module _ (F : Fits G) (n : G .nodes ≤ 64) (k : ℕ) (h : k < G .links) where
+    pub put-tables : (d : Bool)
+        → Tables G (opened k d w) (put leaving (end G k d) (end G k (not d))) (put entering (end G k (not d)) (end G k d))
+    put-tables d = record {
+      out = put-way (T .out) F n k h d;
+      into = same-ways (rw Bool·not-not at (put-way (T .into) F n k h (not d))) (turnedWays (opened k d w)) (λ i e l. rw (opened-turned k d w i e) Iff·rfl);
+    }
+
+    pub cut-tables : Simple G → ((d : Bool) → w k d ≡ true)
+        → Tables G (without k w) (cut leaving (G .low k) (G .high k)) (cut entering (G .low k) (G .high k))
+    cut-tables S on = record { out = cut-way (T .out) F n k h S on; into = cut-way (T .into) F n k h S (λ d. on (not d)) }

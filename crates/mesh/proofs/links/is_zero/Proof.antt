@@ -1,19 +1,71 @@
--- `mesh::links::is_zero` meets its contract: each return rewrites with the tests that led there.
-use borrow.Author.Tests.{eq-eqb, ne-eqb}
+-- `mesh::links::is_zero` meets its contract: the fields as one number are 0 just where each of them is.
+use Prim.Native.Nat.{ℕ, _+_, _*_}
+use mathlib.Core.Path.{_≡_}
+use native.Mathlib.Omega.{arith}
+use Rattle.scan.specs.Test.{Says, eq-says, says-same}
+use Rattle.mesh.specs.declared.Link.{Link}
+use Rattle.mesh.specs.Mesh.{zeroLink, isZero}
+use Rattle.mesh.specs.Laws.Refused.{zero-says}
+use borrow.Author.Needs.{needs}
 use Rattle.mesh.proofs.links.is_zero.Statement.{statement}
 use Rattle.mesh.proofs.links.is_zero.Tie as tie
 
+module _ (l : Link) where
+  -- the fields as one number
+  abbrev number : ℕ
+  number = l .low + 256 * l .high + 65536 * l .length + 4294967296 * l .pair
+
+  number-says : Says (isZero l) (number ≡ 0)
+  number-says = (λ e. rw (zero-says l .0 e), λ e. zero-says l .1 (zeros (omega arith) (omega arith) (omega arith) (omega arith)))
+    where
+      zeros : l .low ≡ 0 → l .high ≡ 0 → l .length ≡ 0 → l .pair ≡ 0 → l ≡ zeroLink
+      zeros a b c d = λ j. record { low = a j; high = b j; length = c j; pair = d j }
+
+cast-ends : tie.Need-cast-ends
+cast-ends c = search needs
+
+cast-ends-2 : tie.Need-cast-ends-2
+cast-ends-2 c = search needs
+
+mul-ends : tie.Need-mul-ends
+mul-ends c = search needs
+
+add-ends : tie.Need-add-ends
+add-ends c = search needs
+
+cast-result : tie.Need-cast-result
+cast-result c = search needs
+
+mul-result : tie.Need-mul-result
+mul-result c = search needs
+
+add-result : tie.Need-add-result
+add-result c = search needs
+
+cast-result-2 : tie.Need-cast-result-2
+cast-result-2 c = search needs
+
+mul-result-2 : tie.Need-mul-result-2
+mul-result-2 c = search needs
+
+add-result-2 : tie.Need-add-result-2
+add-result-2 c = search needs
+
 returns : tie.Need-returns
-returns c = simp (eq-eqb _ _ (c .before .before .before .before .before .if1 .taken), eq-eqb _ _ (c .before .before .before .if2 .taken), eq-eqb _ _ (c .before .if3 .taken))
-
-returns-2 : tie.Need-returns-2
-returns-2 c = simp (eq-eqb _ _ (c .before .before .before .before .if1 .taken), eq-eqb _ _ (c .before .before .if2 .taken), ne-eqb _ _ (c .if3 .left))
-
-returns-3 : tie.Need-returns-3
-returns-3 c = simp (eq-eqb _ _ (c .before .before .if1 .taken), ne-eqb _ _ (c .if2 .left))
-
-returns-4 : tie.Need-returns-4
-returns-4 c = simp (ne-eqb _ _ (c .if1 .left))
+returns c = says-same (eq-says _ 0) (number-says (c .before .before .before .before .args .l))
 
 pub is-zero-spec : {M : Type 1} → statement M
-is-zero-spec = tie.close (tie.spec returns returns-2 returns-3 returns-4)
+is-zero-spec =
+    tie.close
+    (tie.spec
+    cast-ends
+    cast-ends-2
+    mul-ends
+    add-ends
+    cast-result
+    mul-result
+    add-result
+    cast-result-2
+    mul-result-2
+    add-result-2
+    returns)

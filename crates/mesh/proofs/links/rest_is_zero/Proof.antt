@@ -1,21 +1,21 @@
--- `mesh::links::rest_is_zero` meets its contract. The loop keeps that all entries are zero just where those from i on are.
+-- `mesh::links::rest_is_zero` meets its contract. The loop keeps that all entries are zero just where those before i were and those from i on are.
 use borrow.Author.Needs.{needs}
 use native.Mathlib.Omega.{arith}
 use mathlib.Core.Path.{_≡_, sym, _∙_}
+use mathlib.Core.Bool.{_&&_}
 use Prim.Native.Nat.{_-_, _≤_}
 use lib.ListN.{length, drop}
-use borrow.Author.Tests.{not-true, not-false}
 use Rattle.scan.specs.Part.{length-mapped}
 use Rattle.mesh.specs.Mesh.{allZero}
-use Rattle.mesh.specs.Laws.Links.{zero-next, zero-refused, zero-end}
+use Rattle.mesh.specs.Laws.Links.{zero-next, zero-end}
 use Rattle.mesh.proofs.links.rest_is_zero.Statement.{statement}
 use Rattle.mesh.proofs.links.rest_is_zero.Tie as tie
 
 abbrev Inv-loop : tie.InvT-loop
-Inv-loop m i₀ i = (i ≤ 256) × (allZero (drop (m .count) (m .links)) ≡ allZero (drop i (m .links)))
+Inv-loop m clear₀ i₀ clear i = (i ≤ 256) × (allZero (drop (m .count) (m .links)) ≡ (clear && allZero (drop i (m .links))))
 
 abbrev μ-loop : tie.MeasureT-loop
-μ-loop m i₀ i = 256 - i
+μ-loop m clear₀ i₀ clear i = 256 - i
 
 cast-i : tie.Need-cast-i Inv-loop μ-loop
 cast-i c = search needs
@@ -32,13 +32,6 @@ element-copy-out-l c = search needs
 is-zero-requires : tie.Need-is-zero-requires Inv-loop μ-loop
 is-zero-requires c κs = search needs
 
-returns : tie.Need-returns Inv-loop μ-loop
-returns c =
-    let a = c .before .before .before .before .before .args .t1 in
-    let lo = c .before .before .before .before .loop in
-    let sized : length (a .links) ≡ 256 = search length-mapped in
-    sym (lo .inv .1 ∙ zero-refused (a .links) (lo .i) (omega arith) (sym (c .before .is-zero .ensures) ∙ not-true _ (c .if1 .taken)))
-
 add-i : tie.Need-add-i Inv-loop μ-loop
 add-i c = search needs
 
@@ -47,17 +40,17 @@ loop-less c = search needs
 
 loop-again : tie.Need-loop-again Inv-loop μ-loop
 loop-again c =
-    let a = c .before .before .before .before .before .args .t1 in
-    let lo = c .before .before .before .before .loop in
+    let a = c .before .before .before .before .args .t1 in
+    let lo = c .before .before .before .loop in
     let sized : length (a .links) ≡ 256 = search length-mapped in
-    (omega arith, lo .inv .1 ∙ zero-next (a .links) (lo .i) (omega arith) (sym (c .before .is-zero .ensures) ∙ not-false _ (c .if1 .left)))
+    (omega arith, rw (c .is-zero .ensures) (lo .inv .1 ∙ zero-next (a .links) (lo .i) (lo .clear) (omega arith)))
 
-returns-2 : tie.Need-returns-2 Inv-loop μ-loop
-returns-2 c =
+returns : tie.Need-returns Inv-loop μ-loop
+returns c =
     let a = c .before .before .args .t1 in
     let lo = c .before .loop in
     let sized : length (a .links) ≡ 256 = search length-mapped in
-    sym (lo .inv .1 ∙ zero-end (a .links) (lo .i) (omega arith))
+    sym (lo .inv .1 ∙ zero-end (a .links) (lo .i) (lo .clear) (omega arith))
 
 pub rest-is-zero-spec : {M : Type 1} → statement M
 rest-is-zero-spec =
@@ -70,8 +63,7 @@ rest-is-zero-spec =
     mul-l
     element-copy-out-l
     is-zero-requires
-    returns
     add-i
     loop-less
     loop-again
-    returns-2)
+    returns)

@@ -1,80 +1,92 @@
--- `rows::direct` meets its contract: each of its three ways out is a case of `Directed`, by what the two searches said of the rows without the link.
+-- `rows::direct` meets its contract: each of its three ways out is a case of `Directed`, by what the two searches said of the tables without the link.
 use Prim.Native.Nat.{ℕ}
-use mathlib.Core.Path.{_≡_, _∙_, ap}
+use mathlib.Core.Path.{_≡_}
 use mathlib.Core.Bool.{Bool, true, false}
 use mathlib.Core.List.{List}
-use borrow.Author.Needs.{needs}
+use native.Mathlib.Omega.{arith}
 use Rattle.scan.specs.Test.{Says, fails}
 use Rattle.graph.specs.Walk.{Walk}
-use Rattle.planner.specs.Rows.{Edge, put, flip, cut, Directed, up, down, stuck}
+use Rattle.planner.specs.Rows.{Edge, Mirror, put, cut, Directed, up, down, stuck}
+use borrow.Author.Needs.{needs}
 use Rattle.planner.proofs.rows.direct.Statement.{statement}
 use Rattle.planner.proofs.rows.direct.Tie as tie
 
-module _ (rows : List ℕ) (low high : ℕ) {s t : List ℕ} (e : s ≡ flip rows low high) (f : t ≡ flip s high low) where
-  cut-is : t ≡ cut rows low high
-  cut-is = f ∙ ap (λ (x : List ℕ). flip x high low) e
+module _ (leaving entering : List ℕ) (low high : ℕ) {t e : List ℕ} (p : t ≡ cut leaving low high) (q : e ≡ cut entering low high) where
+  mirror-is : Mirror (cut leaving low high) (cut entering low high) → Mirror t e
+  mirror-is M = rw (p, q) M
 
   module _ {a : Bool} (A : Says a (Walk (Edge t) high low)) where
-    directed-up : a ≡ true → {x : List ℕ} → x ≡ put t low high → Directed rows low high 0 x
-    directed-up q g = rw (g, cut-is) (up (rw cut-is at (A .0 q)))
+    directed-up : a ≡ true → {x y : List ℕ} → x ≡ put t low high → y ≡ put e high low → Directed leaving entering low high 0 x y
+    directed-up s f g = rw (f, g, p, q) (up (rw p at (A .0 s)))
 
-    module _ (q : a ≡ false) {b : Bool} (B : Says b (Walk (Edge t) low high)) where
-      directed-down : b ≡ true → {x : List ℕ} → x ≡ put t high low → Directed rows low high 1 x
-      directed-down r g = rw (g, cut-is) (down (rw cut-is at (fails A q)) (rw cut-is at (B .0 r)))
+    module _ (s : a ≡ false) {b : Bool} (B : Says b (Walk (Edge t) low high)) where
+      directed-down : b ≡ true → {x y : List ℕ} → x ≡ put t high low → y ≡ put e low high → Directed leaving entering low high 1 x y
+      directed-down r f g = rw (f, g, p, q) (down (rw p at (fails A s)) (rw p at (B .0 r)))
 
-      directed-not : b ≡ false → Directed rows low high 2 t
-      directed-not r = rw cut-is (stuck (rw cut-is at (fails A q)) (rw cut-is at (fails B r)))
+      directed-not : b ≡ false → Directed leaving entering low high 2 t e
+      directed-not r = rw (p, q) (stuck (rw p at (fails A s)) (rw p at (fails B r)))
 
-flip-arc-requires : tie.Need-flip-arc-requires
-flip-arc-requires c κs = search needs
+cut-link-requires : tie.Need-cut-link-requires
+cut-link-requires c κs = search needs
 
-flip-arc-requires-2 : tie.Need-flip-arc-requires-2
-flip-arc-requires-2 c κs = search needs
+cut-link-requires-2 : tie.Need-cut-link-requires-2
+cut-link-requires-2 c κs = search needs
 
 leads-requires : tie.Need-leads-requires
-leads-requires c κs = search needs
+leads-requires c κs =
+    let second = c .before .before in
+    let first = second .before .before in
+    (omega arith, omega arith, mirror-is _ _ _ _ (first .cut-link .ensures) (second .cut-link2 .ensures) (first .before .before .pre .2))
 
 put-arc-requires : tie.Need-put-arc-requires
 put-arc-requires c κs = search needs
 
-returns : tie.Need-returns
-returns c =
-    let up = c .before .before .before in
-    let turned = up .before .before in
-    directed-up _ _ _ (turned .before .before .flip-arc .ensures) (turned .flip-arc2 .ensures) (up .leads .ensures)
-    (c .before .before .if1 .taken) (c .put-arc .ensures)
-
-leads-requires-2 : tie.Need-leads-requires-2
-leads-requires-2 c κs = search needs
-
 put-arc-requires-2 : tie.Need-put-arc-requires-2
 put-arc-requires-2 c κs = search needs
 
+returns : tie.Need-returns
+returns c =
+    let up = c .before .before .before .before .before in
+    let second = up .before .before .before in
+    directed-up _ _ _ _ (second .before .before .cut-link .ensures) (second .cut-link2 .ensures) (up .leads .ensures)
+    (c .before .before .before .before .if1 .taken) (c .before .before .put-arc .ensures) (c .put-arc2 .ensures)
+
+leads-requires-2 : tie.Need-leads-requires-2
+leads-requires-2 c κs = (omega arith, omega arith, leads-requires (c .before .before .before .before) κs .2)
+
+put-arc-requires-3 : tie.Need-put-arc-requires-3
+put-arc-requires-3 c κs = search needs
+
+put-arc-requires-4 : tie.Need-put-arc-requires-4
+put-arc-requires-4 c κs = search needs
+
 returns-2 : tie.Need-returns-2
 returns-2 c =
-    let down = c .before .before .before in
-    let not-up = down .before .before in
-    let turned = not-up .before .before .before in
-    directed-down _ _ _ (turned .before .before .flip-arc .ensures) (turned .flip-arc2 .ensures) (not-up .before .leads .ensures) (not-up .if1 .left)
-    (down .leads2 .ensures) (c .before .before .if2 .taken) (c .put-arc2 .ensures)
+    let down = c .before .before .before .before .before in
+    let not-up = down .before .before .before in
+    let second = not-up .before .before .before .before in
+    directed-down _ _ _ _ (second .before .before .cut-link .ensures) (second .cut-link2 .ensures) (not-up .before .leads .ensures) (not-up .if1 .left)
+    (down .leads2 .ensures) (c .before .before .before .before .if2 .taken) (c .before .before .put-arc3 .ensures) (c .put-arc4 .ensures)
 
 returns-3 : tie.Need-returns-3
 returns-3 c =
-    let not-up = c .before .before .before in
-    let turned = not-up .before .before .before in
-    directed-not _ _ _ (turned .before .before .flip-arc .ensures) (turned .flip-arc2 .ensures) (not-up .before .leads .ensures) (not-up .if1 .left)
+    let not-up = c .before .before .before .before in
+    let second = not-up .before .before .before .before in
+    directed-not _ _ _ _ (second .before .before .cut-link .ensures) (second .cut-link2 .ensures) (not-up .before .leads .ensures) (not-up .if1 .left)
     (c .before .leads2 .ensures) (c .if2 .left)
 
 pub direct-spec : {M : Type 1} → statement M
 direct-spec =
     tie.close
     (tie.spec
-    flip-arc-requires
-    flip-arc-requires-2
+    cut-link-requires
+    cut-link-requires-2
     leads-requires
     put-arc-requires
+    put-arc-requires-2
     returns
     leads-requires-2
-    put-arc-requires-2
+    put-arc-requires-3
+    put-arc-requires-4
     returns-2
     returns-3)

@@ -2,15 +2,15 @@
 use Prim.Native.Nat.{_^_, _-_}
 use native.Mathlib.Omega.{arith}
 use borrow.Author.Needs.{needs}
-use Rattle.planner.specs.Laws.Spreading.{Spreading, spreading-start, spread-met, spread-all, next-node, done-grows, spreading-next}
+use Rattle.planner.specs.Laws.Spreading.{Spreading, spreading-start, spread-all, next-node, done-grows, spreading-next}
 use Rattle.planner.proofs.rows.spread.Statement.{statement}
 use Rattle.planner.proofs.rows.spread.Tie as tie
 
 abbrev Inv-loop : tie.InvT-loop
-Inv-loop rows u goal seen₀ done₀ todo₀ seen done todo = Spreading rows u seen done todo
+Inv-loop rows u seen₀ done₀ seen done = Spreading rows u seen done
 
 abbrev μ-loop : tie.MeasureT-loop
-μ-loop rows u goal seen₀ done₀ todo₀ seen done todo = 2 ^ 64 - done
+μ-loop rows u seen₀ done₀ seen done = 2 ^ 64 - done
 
 bit-requires : tie.Need-bit-requires Inv-loop μ-loop
 bit-requires c κs = search needs
@@ -18,27 +18,24 @@ bit-requires c κs = search needs
 loop-holds : tie.Need-loop-holds Inv-loop μ-loop
 loop-holds c = spreading-start _ _ _ (c .before .pre) (c .bit .ensures)
 
-returns : tie.Need-returns Inv-loop μ-loop
-returns c = spread-met (c .before .before .loop .inv) _ (λ e. omega arith)
-
 row-requires : tie.Need-row-requires Inv-loop μ-loop
-row-requires c κs = next-node (c .before .before .loop .inv) (λ e. omega arith) .below
+row-requires c κs = next-node (c .before .loop .inv) (λ e. omega arith) .below
 
 bit-requires-2 : tie.Need-bit-requires-2 Inv-loop μ-loop
-bit-requires-2 c κs = next-node (c .before .before .before .loop .inv) (λ e. omega arith) .below
+bit-requires-2 c κs = next-node (c .before .before .loop .inv) (λ e. omega arith) .below
 
 loop-less : tie.Need-loop-less Inv-loop μ-loop
 loop-less c =
-    let i = c .before .before .before .before .loop .inv in
+    let i = c .before .before .before .loop .inv in
     let s = spreading-next i (λ e. omega arith) _ (c .bit2 .ensures) _ (c .before .row .ensures) (c .before .row .ok) in
     omega (arith, done-grows i (λ e. omega arith) _ (c .bit2 .ensures), s .done-fits)
 
 loop-again : tie.Need-loop-again Inv-loop μ-loop
 loop-again c =
-    spreading-next (c .before .before .before .before .loop .inv) (λ e. omega arith) _ (c .bit2 .ensures) _ (c .before .row .ensures) (c .before .row .ok)
+    spreading-next (c .before .before .before .loop .inv) (λ e. omega arith) _ (c .bit2 .ensures) _ (c .before .row .ensures) (c .before .row .ok)
 
-returns-2 : tie.Need-returns-2 Inv-loop μ-loop
-returns-2 c = spread-all (c .before .loop .inv) _ (omega arith)
+returns : tie.Need-returns Inv-loop μ-loop
+returns c = spread-all (c .before .loop .inv) (omega arith)
 
 pub spread-spec : {M : Type 1} → statement M
 spread-spec =
@@ -48,9 +45,8 @@ spread-spec =
     μ-loop
     bit-requires
     loop-holds
-    returns
     row-requires
     bit-requires-2
     loop-less
     loop-again
-    returns-2)
+    returns)

@@ -1,11 +1,10 @@
--- `search::lowest_unreached` meets its contract: the search from node 0 has no goal, so that it finds just the nodes that node 0 reaches, and the loop stops at
--- the lowest that is not among them.
+-- `search::lowest_unreached` meets its contract: the search from node 0 finds just the nodes that node 0 reaches, and the loop stops at the lowest
+-- that is not among them.
 use Prim.Native.Nat.{ℕ, _-_, _≤_, _<_}
 use mathlib.Core.Path.{_≡_, sym, _∙_, ap}
 use mathlib.Core.Bool.{true, not}
 use mathlib.Core.List.{List}
 use native.Mathlib.Omega.{arith}
-use lib.Bits.{and-zero-r}
 use Rattle.scan.specs.Lowest.{lowest, None, none-yet, none-next, lowest-found, lowest-none}
 use Rattle.scan.specs.Bits.{has}
 use Rattle.mesh.specs.declared.Mesh.{Mesh}
@@ -24,11 +23,11 @@ use Rattle.planner.specs.Laws.Tables.{to-leads, from-leads}
 use Rattle.planner.proofs.search.lowest_unreached.Statement.{statement}
 use Rattle.planner.proofs.search.lowest_unreached.Tie as tie
 
-module _ (m : Mesh) (ok : meshAnswer m ≡ Accepted) {table : List ℕ} (T : Table (netOf m) bothWays table) {reached : ℕ} (S : Spread table 0 0 reached) where
+module _ (m : Mesh) (ok : meshAnswer m ≡ Accepted) {table : List ℕ} (T : Table (netOf m) bothWays table) {reached : ℕ} (S : Spread table 0 reached) where
   unreached-is : (v : ℕ) → unreached (netOf m) v ≡ not (has reached v)
   unfolding unreached
   unreached-is v =
-      let (to, from) = spread-says S (and-zero-r reached) v in
+      let (to, from) = spread-says S v in
       let F = fits m ok in
       ap not (sym (reaches-by F bothWays 0 (F .some-node) (has reached v) v (λ e. to-leads T (to e), λ p. from (from-leads T p))))
 
