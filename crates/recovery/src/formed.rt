@@ -1,4 +1,4 @@
-// The test of a session's record: the mesh checks, then 13.
+// The test of a session's record: the mesh checks, then 13. No branch in a loop, so that the compiler can test several entries at once.
 use crate::Cut;
 use crate::Session;
 use mesh::Answer;
@@ -24,14 +24,13 @@ fn is_bad_direction(links: u16, i: usize, v: u8) -> bool
 fn has_bad_direction(links: u16, directions: &[u8; 256]) -> bool
     ensures { λ r. ⌜ r ≡ overflows links 1 (now (directions .entry)) ⌝ }
 {
+    let mut bad = false;
     let mut i: usize = 0;
     while i < 256 {
-        if is_bad_direction(links, i, directions[i]) {
-            return true;
-        }
+        bad = bad | is_bad_direction(links, i, directions[i]);
         i += 1;
     }
-    false
+    bad
 }
 
 // Whether state v of entry i is above 4, or past the last link and not zero.
@@ -51,14 +50,13 @@ fn is_bad_state(links: u16, i: usize, v: u8) -> bool
 fn has_bad_state(links: u16, states: &[u8; 256]) -> bool
     ensures { λ r. ⌜ r ≡ overflows links 4 (now (states .entry)) ⌝ }
 {
+    let mut bad = false;
     let mut i: usize = 0;
     while i < 256 {
-        if is_bad_state(links, i, states[i]) {
-            return true;
-        }
+        bad = bad | is_bad_state(links, i, states[i]);
         i += 1;
     }
-    false
+    bad
 }
 
 // Whether node v is reached, as r says, and not below N.
@@ -71,14 +69,13 @@ fn is_stray(nodes: u8, v: usize, r: bool) -> bool
 fn has_stray(nodes: u8, reached: &[bool; 64]) -> bool
     ensures { λ r. ⌜ r ≡ strays nodes (now (reached .entry)) ⌝ }
 {
+    let mut bad = false;
     let mut v: usize = 0;
     while v < 64 {
-        if is_stray(nodes, v, reached[v]) {
-            return true;
-        }
+        bad = bad | is_stray(nodes, v, reached[v]);
         v += 1;
     }
-    false
+    bad
 }
 
 // Whether the cut is neither a link nor none.

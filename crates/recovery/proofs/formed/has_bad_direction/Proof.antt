@@ -1,32 +1,29 @@
--- `recovery::formed::has_bad_direction` meets its contract. The loop keeps that no entry below i is bad.
+-- `recovery::formed::has_bad_direction` meets its contract. The loop keeps whether some entry below i is bad.
 use Prim.Native.Nat.{_-_, _≤_}
-use mathlib.Core.Path.{sym, _∙_}
+use mathlib.Core.Path.{_≡_, refl}
 use native.Mathlib.Omega.{arith}
 use borrow.Author.Needs.{needs}
 use Rattle.scan.specs.Entry.{at}
-use Rattle.scan.specs.Lowest.{None, none-yet, none-next, any-found, any-none}
+use Rattle.scan.specs.Lowest.{any}
+use Rattle.flood.specs.Laws.Loops.{any-zero, any-turn}
 use Rattle.recovery.specs.Formed.{isOver, overflows}
 use Rattle.recovery.proofs.formed.has_bad_direction.Statement.{statement}
 use Rattle.recovery.proofs.formed.has_bad_direction.Tie as tie
 
 abbrev Inv-loop : tie.InvT-loop
-Inv-loop links directions i₀ i = (i ≤ 256) × None (λ j. isOver links 1 j (at directions j)) i
+Inv-loop links directions bad₀ i₀ bad i = (i ≤ 256) × (bad ≡ any (λ j. isOver links 1 j (at directions j)) i)
 
 abbrev μ-loop : tie.MeasureT-loop
-μ-loop links directions i₀ i = 256 - i
+μ-loop links directions bad₀ i₀ bad i = 256 - i
 
 loop-holds : tie.Need-loop-holds Inv-loop μ-loop
-loop-holds c = (omega arith, none-yet _)
+loop-holds c = (omega arith, any-zero _)
 
 element-copy-out-is-bad-direction : tie.Need-element-copy-out-is-bad-direction Inv-loop μ-loop
 element-copy-out-is-bad-direction c = search needs
 
 is-bad-direction-requires : tie.Need-is-bad-direction-requires Inv-loop μ-loop
 is-bad-direction-requires c κs = search needs
-
-returns : tie.Need-returns Inv-loop μ-loop
-unfolding overflows
-returns c = sym (any-found _ 256 (c .before .before .before .before .loop .i) (omega arith) (sym (c .before .is-bad-direction .ensures) ∙ c .if1 .taken))
 
 add-i : tie.Need-add-i Inv-loop μ-loop
 add-i c = search needs
@@ -36,12 +33,15 @@ loop-less c = search needs
 
 loop-again : tie.Need-loop-again Inv-loop μ-loop
 loop-again c =
-    let lo = c .before .before .before .before .loop in
-    (omega arith, none-next _ (lo .i) (lo .inv .1) (sym (c .before .is-bad-direction .ensures) ∙ c .if1 .left))
+    let lo = c .before .before .before .loop in
+    (omega arith, any-turn _ (lo .i) (lo .bad) _ _ (lo .inv .1) (c .is-bad-direction .ensures) refl)
 
-returns-2 : tie.Need-returns-2 Inv-loop μ-loop
+returns : tie.Need-returns Inv-loop μ-loop
 unfolding overflows
-returns-2 c = sym (any-none _ 256 (c .before .loop .i) (c .before .loop .inv .1) (omega arith))
+returns c =
+    let lo = c .before .loop in
+    let e : lo .i ≡ 256 = omega arith in
+    rw e at (lo .inv .1)
 
 pub has-bad-direction-spec : {M : Type 1} → statement M
 has-bad-direction-spec =
@@ -52,8 +52,7 @@ has-bad-direction-spec =
     loop-holds
     element-copy-out-is-bad-direction
     is-bad-direction-requires
-    returns
     add-i
     loop-less
     loop-again
-    returns-2)
+    returns)
