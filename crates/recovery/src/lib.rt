@@ -7,6 +7,7 @@ ghost use Rattle.recovery.specs.Arrays.{noLinks, cutLink, actedBy, lengt
 
 mod answers;
 mod formed;
+pub mod in_place;
 mod topology;
 
 use flood::Flood;

@@ -1,0 +1,3 @@
+mod Returned
+mod Returns
+mod Walk
