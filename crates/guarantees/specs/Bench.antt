@@ -16,7 +16,7 @@ use Rattle.planner.specs.Plan.{padded, zeroPlan, planned}
 use Rattle.flood.specs.Machine.{order}
 use Rattle.recovery.specs.declared.Session.{Session}
 use Rattle.recovery.specs.Calls.{digraph, failure, afterDelivery}
-use Rattle.recovery.specs.History.{Call, cut, deliver, run, mend, status, next, after, accepted}
+use Rattle.recovery.specs.History.{Call, by-value, cut, deliver, run, mend, status, next, after, accepted}
 use Rattle.recovery.specs.Demand.{startedOn}
 
 -- a link with these ends, not measured and with no fibre pair
@@ -44,10 +44,10 @@ unplanned number place = record { plan = zeroPlan; answer = Refused number place
 
 -- the links on which a call makes deliveries, in turn
 abbrev pub turnsOf : Call → Session → List ℕ
-turnsOf (cut k) s = []
-turnsOf (deliver k) s = cond (accepted (afterDelivery s k .answer)) (k ∷ []) []
+turnsOf (cut w k) s = []
+turnsOf (deliver w k) s = cond (accepted (afterDelivery s k .answer)) (k ∷ []) []
 turnsOf (run n) s = order (digraph s) (failure s) n (s .flood)
-turnsOf (mend k) s = []
+turnsOf (mend w k) s = []
 turnsOf (status k) s = []
 
 unfoldable pub turns : List Call → Session → List ℕ
@@ -86,7 +86,7 @@ abbrev p1 : Row
 p1 = row (1 ∷ 3 ∷ 3 ∷ 0 ∷ 0 ∷ 2 ∷ 2 ∷ 1 ∷ 1 ∷ []) (reads 3 (ends 0 1 ∷ ends 0 2 ∷ ends 1 2 ∷ [])) (plans (0 ∷ 1 ∷ 0 ∷ []))
 
 abbrev p2 : Row
-p2 = under p1 (cut 0 ∷ deliver 1 ∷ deliver 2 ∷ []) (1 ∷ 2 ∷ []) (1 ∷ 2 ∷ [])
+p2 = under p1 (cut by-value 0 ∷ deliver by-value 1 ∷ deliver by-value 2 ∷ []) (1 ∷ 2 ∷ []) (1 ∷ 2 ∷ [])
 
 abbrev p3 : Row
 p3 = row (1 ∷ 2 ∷ 1 ∷ 0 ∷ 0 ∷ []) (reads 2 (ends 0 1 ∷ [])) (unplanned 21 0)
@@ -101,10 +101,10 @@ p5 =
     (plans (0 ∷ 0 ∷ 1 ∷ 0 ∷ 0 ∷ []))
 
 abbrev p6 : Row
-p6 = under p5 (cut 4 ∷ run 4294967295 ∷ []) (1 ∷ 2 ∷ 3 ∷ 0 ∷ 0 ∷ 3 ∷ []) (1 ∷ 2 ∷ [])
+p6 = under p5 (cut by-value 4 ∷ run 4294967295 ∷ []) (1 ∷ 2 ∷ 3 ∷ 0 ∷ 0 ∷ 3 ∷ []) (1 ∷ 2 ∷ [])
 
 abbrev p7 : Row
-p7 = under p5 (cut 4 ∷ deliver 3 ∷ deliver 0 ∷ deliver 2 ∷ deliver 1 ∷ deliver 1 ∷ []) (3 ∷ 0 ∷ 2 ∷ 1 ∷ 1 ∷ []) (0 ∷ 2 ∷ 3 ∷ [])
+p7 = under p5 (cut by-value 4 ∷ deliver by-value 3 ∷ deliver by-value 0 ∷ deliver by-value 2 ∷ deliver by-value 1 ∷ deliver by-value 1 ∷ []) (3 ∷ 0 ∷ 2 ∷ 1 ∷ 1 ∷ []) (0 ∷ 2 ∷ 3 ∷ [])
 
 abbrev p8 : Row
 p8 = row (1 ∷ 2 ∷ 1 ∷ 0 ∷ 2 ∷ 1 ∷ []) (refuses 9 4) (unplanned 3 0)

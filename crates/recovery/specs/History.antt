@@ -15,34 +15,39 @@ use Rattle.recovery.specs.declared.Report.the-variants as report
 use Rattle.recovery.specs.declared.Status.{Status}
 use Rattle.recovery.specs.Calls.{afterCut, afterDelivery, afterRun, afterMend, statusOf}
 
+-- how a call is made: on a session by value, or in place on one that the host lends (01's lent calls)
+pub data Form : Type 0 where
+  by-value in-place : Form
+
 -- the calls on a session, with any argument: a link number, for run the allowance
 pub data Call : Type 0 where
-  cut deliver run mend status : ℕ → Call
+  cut deliver mend : Form → ℕ → Call
+  run status : ℕ → Call
 
--- what each answers
+-- what each answers. A call in place gives the answer of its call by value, and leaves the session that this returns
 abbrev pub Reply : Call → Type 0
-Reply (cut k) = Answer
-Reply (deliver k) = Delivered
+Reply (cut w k) = Answer
+Reply (deliver w k) = Delivered
 Reply (run n) = Report
-Reply (mend k) = Answer
+Reply (mend w k) = Answer
 Reply (status k) = Status
 
 abbrev pub reply : (c : Call) → Session → Reply c
-reply (cut k) s = afterCut s k .answer
-reply (deliver k) s = afterDelivery s k .answer
+reply (cut w k) s = afterCut s k .answer
+reply (deliver w k) s = afterDelivery s k .answer
 reply (run n) s = afterRun s n .report
-reply (mend k) s = afterMend s k .answer
+reply (mend w k) s = afterMend s k .answer
 reply (status k) s = statusOf s k
 
--- the session that it returns
+-- the session that it returns or leaves
 abbrev pub next : Call → Session → Session
-next (cut k) s = afterCut s k .session
-next (deliver k) s = afterDelivery s k .session
+next (cut w k) s = afterCut s k .session
+next (deliver w k) s = afterDelivery s k .session
 next (run n) s = afterRun s n .session
-next (mend k) s = afterMend s k .session
+next (mend w k) s = afterMend s k .session
 next (status k) s = s
 
--- the session after the calls, each on the session that the one before returned
+-- the session after the calls, each on the session as the one before returned or left it
 unfoldable pub after : List Call → Session → Session
 after [] s = s
 after (c ∷ cs) s = after cs (next c s)
@@ -74,13 +79,13 @@ emptyLog = record { cut = stands.Nothing; deliveries = 0 }
 
 -- a cut stands from when it was accepted until a mend was; a run counts by the deliveries that it made
 abbrev pub note : (c : Call) → Reply c → Log → Log
-note (cut k) Accepted l = record { cut = stands.Link k; deliveries = 0 }
-note (cut k) (Refused number place) l = l
-note (deliver k) d l = record { cut = l .cut; deliveries = l .deliveries + bit (accepted d) }
+note (cut w k) Accepted l = record { cut = stands.Link k; deliveries = 0 }
+note (cut w k) (Refused number place) l = l
+note (deliver w k) d l = record { cut = l .cut; deliveries = l .deliveries + bit (accepted d) }
 note (run n) (report.Made count rest) l = record { cut = l .cut; deliveries = l .deliveries + count }
 note (run n) (report.Refused number place) l = l
-note (mend k) Accepted l = emptyLog
-note (mend k) (Refused number place) l = l
+note (mend w k) Accepted l = emptyLog
+note (mend w k) (Refused number place) l = l
 note (status k) t l = l
 
 unfoldable pub logged : List Answered → Log → Log

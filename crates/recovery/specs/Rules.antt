@@ -124,20 +124,20 @@ module _ (g : Digraph) where
   names (cuts.Link k) j = eqb k j
 
   abbrev pub refusal : Call → Now → Answer
-  refusal (cut j) n = must (ltb j links) 12 j (must (not (stands (n .cut))) 22 j Accepted)
-  refusal (deliver j) n = must (ltb j links) 12 j (must (stands (n .cut)) 23 j (must (moving (n .state j)) 24 j Accepted))
+  refusal (cut w j) n = must (ltb j links) 12 j (must (not (stands (n .cut))) 22 j Accepted)
+  refusal (deliver w j) n = must (ltb j links) 12 j (must (stands (n .cut)) 23 j (must (moving (n .state j)) 24 j Accepted))
   refusal (run allowed) n = must (stands (n .cut)) 23 0 Accepted
-  refusal (mend j) n = must (ltb j links) 12 j (must (stands (n .cut)) 23 j (must (names (n .cut) j) 26 j (must (rest n) 25 j Accepted)))
+  refusal (mend w j) n = must (ltb j links) 12 j (must (stands (n .cut)) 23 j (must (names (n .cut) j) 26 j (must (rest n) 25 j Accepted)))
   refusal (status j) n = must (ltb j links) 12 j Accepted
 
   -- what an accepted call makes; with no cut a delivery or a run is not accepted
   abbrev pub effect : Call → Cut → Now → Now
-  effect (cut j) c n = cutRule j n
-  effect (deliver j) (cuts.Link k) n = deliverRule k j n
-  effect (deliver j) cuts.Nothing n = n
+  effect (cut w j) c n = cutRule j n
+  effect (deliver w j) (cuts.Link k) n = deliverRule k j n
+  effect (deliver w j) cuts.Nothing n = n
   effect (run allowed) (cuts.Link k) n = runRule k allowed n
   effect (run allowed) cuts.Nothing n = n
-  effect (mend j) c n = start
+  effect (mend w j) c n = start
   effect (status j) c n = n
 
   abbrev pub changedBy : Answer → Now → Now → Now
@@ -171,10 +171,10 @@ module _ (g : Digraph) where
       (cond (stands (n .cut) && rest n) (count (λ i. eqb (n .state i) 2) links) 0)
 
   abbrev pub ruleReply : (c : Call) → Now → Reply c
-  ruleReply (cut j) n = refusal (cut j) n
-  ruleReply (deliver j) n = deliverReply (refusal (deliver j) n) j (ruleNext (deliver j) n)
+  ruleReply (cut w j) n = refusal (cut w j) n
+  ruleReply (deliver w j) n = deliverReply (refusal (deliver w j) n) j (ruleNext (deliver w j) n)
   ruleReply (run allowed) n = runReply (refusal (run allowed) n) (runMade (n .cut) allowed n) (ruleNext (run allowed) n)
-  ruleReply (mend j) n = refusal (mend j) n
+  ruleReply (mend w j) n = refusal (mend w j) n
   ruleReply (status j) n = statusReply (refusal (status j) n) j n
 
   -- what the list of calls makes

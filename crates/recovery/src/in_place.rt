@@ -9,25 +9,25 @@ ghost use Rattle.recovery.specs.Calls.{afterCut, afterDelivery, afterMen
 pub fn cut(s: &mut Session, link: u16) -> Answer
     ensures { λ r. ⌜ (now (s .exit) ≡ afterCut (now (s .entry)) link .session) × (r ≡ afterCut (now (s .entry)) link .answer) ⌝ }
 {
-    let c = Session::cut(*s, link);
-    *s = c.session;
-    c.answer
+    let changed = Session::cut(*s, link);
+    *s = changed.session;
+    changed.answer
 }
 
 // A delivery on a link.
 pub fn deliver(s: &mut Session, link: u16) -> Delivered
     ensures { λ r. ⌜ (now (s .exit) ≡ afterDelivery (now (s .entry)) link .session) × (r ≡ afterDelivery (now (s .entry)) link .answer) ⌝ }
 {
-    let c = Session::deliver(*s, link);
-    *s = c.session;
-    c.answer
+    let delivery = Session::deliver(*s, link);
+    *s = delivery.session;
+    delivery.answer
 }
 
 // The cut link is mended.
 pub fn mend(s: &mut Session, link: u16) -> Answer
     ensures { λ r. ⌜ (now (s .exit) ≡ afterMend (now (s .entry)) link .session) × (r ≡ afterMend (now (s .entry)) link .answer) ⌝ }
 {
-    let c = Session::mend(*s, link);
-    *s = c.session;
-    c.answer
+    let mended = Session::mend(*s, link);
+    *s = mended.session;
+    mended.answer
 }

@@ -89,17 +89,17 @@ module _ (m : Mesh) (p : Plan) where
 
     call-kept : {s : Session} {l : Log} → Kept s l → (c : Call) → Kept (next c s) (note c (reply c s) l)
     unfolding afterCut afterDelivery afterRun afterMend
-    call-kept {s} {l} K (cut k) = by-answer (cutAnswer s k) refl
+    call-kept {s} {l} K (cut w k) = by-answer (cutAnswer s k) refl
       where
-        by-answer : (a : Answer) → cutAnswer s k ≡ a → let r = change a s (cutOn s k) in Kept (r .session) (note (cut k) (r .answer) l)
+        by-answer : (a : Answer) → cutAnswer s k ≡ a → let r = change a s (cutOn s k) in Kept (r .session) (note (cut w k) (r .answer) l)
         by-answer Accepted e = let (h, c) = cut-accepted s k e in cut-kept K k h c
         by-answer (Refused number place) e = K
-    call-kept {s} {l} K (deliver k) = by-answer (deliverAnswer s k) refl
+    call-kept {s} {l} K (deliver w k) = by-answer (deliverAnswer s k) refl
       where
         f : Flood
         f = step (digraph s) (failure s) k (s .flood)
 
-        by-answer : (a : Answer) → deliverAnswer s k ≡ a → let r = deliveryAs a s k f in Kept (r .session) (note (deliver k) (r .answer) l)
+        by-answer : (a : Answer) → deliverAnswer s k ≡ a → let r = deliveryAs a s k f in Kept (r .session) (note (deliver w k) (r .answer) l)
         by-answer Accepted e =
             let (c, a) = deliver-accepted s k e in
             let one : suc (l .deliveries) ≡ l .deliveries + bit (accepted (acted (digraph s) k (at (f .states) k))) = rw acted-accepted (omega arith) in
@@ -111,9 +111,9 @@ module _ (m : Mesh) (p : Plan) where
             Kept (r .session) (note (run n) (r .report) l)
         by-answer Accepted e = run-kept K n (run-accepted s e)
         by-answer (Refused number place) e = K
-    call-kept {s} {l} K (mend k) = by-answer (mendAnswer s k)
+    call-kept {s} {l} K (mend w k) = by-answer (mendAnswer s k)
       where
-        by-answer : (a : Answer) → let r = change a s (freshOn (s .mesh) (s .plan)) in Kept (r .session) (note (mend k) (r .answer) l)
+        by-answer : (a : Answer) → let r = change a s (freshOn (s .mesh) (s .plan)) in Kept (r .session) (note (mend w k) (r .answer) l)
         by-answer Accepted = mend-kept K
         by-answer (Refused number place) = K
     call-kept K (status k) = K

@@ -22,7 +22,7 @@ use Rattle.recovery.specs.declared.Session.{Session}
 use Rattle.recovery.specs.Formed.{startAnswer, recordAnswer}
 use Rattle.recovery.specs.Calls.{digraph, failureOf, failure, standing, isCut, withFlood, freshOn, cutOn}
 use Rattle.recovery.specs.Calls.{cutAnswer, deliverAnswer, runAnswer, mendAnswer, statusAnswer}
-use Rattle.recovery.specs.History.{Call, cut, deliver, run, mend, status}
+use Rattle.recovery.specs.History.{Form, Call, cut, deliver, run, mend, status}
 use Rattle.recovery.specs.Rules.{Now, start, stands, names, refusal, effect, runMade}
 use Rattle.recovery.specs.Laws.Tested.{cut-accepted, deliver-accepted, run-accepted}
 use Rattle.recovery.specs.Laws.RuledTests.{shown, rest-is}
@@ -40,17 +40,17 @@ seen s = shown (s .cut) (s .flood)
 
 -- what a call answers to its tests, and the session that it makes where they pass
 abbrev pub answerOf : Call → Session → Answer
-answerOf (cut k) s = cutAnswer s k
-answerOf (deliver k) s = deliverAnswer s k
+answerOf (cut w k) s = cutAnswer s k
+answerOf (deliver w k) s = deliverAnswer s k
 answerOf (run n) s = runAnswer s
-answerOf (mend k) s = mendAnswer s k
+answerOf (mend w k) s = mendAnswer s k
 answerOf (status k) s = statusAnswer s k
 
 abbrev pub made : Call → Session → Session
-made (cut k) s = cutOn s k
-made (deliver k) s = withFlood s (step (digraph s) (failure s) k (s .flood))
+made (cut w k) s = cutOn s k
+made (deliver w k) s = withFlood s (step (digraph s) (failure s) k (s .flood))
 made (run n) s = withFlood s (machine.run (digraph s) (failure s) n (s .flood) .flood)
-made (mend k) s = freshOn (s .mesh) (s .plan)
+made (mend w k) s = freshOn (s .mesh) (s .plan)
 made (status k) s = s
 
 pub fresh-seen : (m : Mesh) (p : Plan) → seen (freshOn m p) ≡ start
@@ -75,10 +75,10 @@ module _ (s : Session) (r : recordAnswer s ≡ Accepted) where
   -- the refusals
   pub refusal-is : (c : Call) → answerOf c s ≡ refusal g c (seen s)
   unfolding cutAnswer deliverAnswer runAnswer mendAnswer statusAnswer underWay
-  refusal-is (cut k) = rw (r, stands-is g (s .cut))
-  refusal-is (deliver k) = rw (r, stands-is g (s .cut))
+  refusal-is (cut w k) = rw (r, stands-is g (s .cut))
+  refusal-is (deliver w k) = rw (r, stands-is g (s .cut))
   refusal-is (run n) = rw (r, stands-is g (s .cut))
-  refusal-is (mend k) = rw (r, stands-is g (s .cut), names-is g (s .cut) k, rest-is g (s .cut) (s .flood))
+  refusal-is (mend w k) = rw (r, stands-is g (s .cut), names-is g (s .cut) k, rest-is g (s .cut) (s .flood))
   refusal-is (status k) = rw r
 
   -- what the record test tells: the ends of the links are nodes, and there is room for all
@@ -97,10 +97,10 @@ module _ (s : Session) (r : recordAnswer s ≡ Accepted) where
     room = record { long = omega (arith, z .states, record-passes .count-most); wide = omega (arith, z .reached, record-passes .nodes-most) }
 
     -- with the failure of a cut that stands, a delivery and a run make what the rules make
-    deliver-ruled-by : (k : ℕ) (x : Cut) → standing x ≡ true → accepts g k (s .flood) ≡ true
-        → shown x (step g (failureOf g x) k (s .flood)) ≡ effect g (deliver k) x (shown x (s .flood))
-    deliver-ruled-by k Nothing e a = clash e refl
-    deliver-ruled-by k (Link c) e a = step-ruled g head< c (Link c) (s .flood) room k a
+    deliver-ruled-by : (w : Form) (k : ℕ) (x : Cut) → standing x ≡ true → accepts g k (s .flood) ≡ true
+        → shown x (step g (failureOf g x) k (s .flood)) ≡ effect g (deliver w k) x (shown x (s .flood))
+    deliver-ruled-by w k Nothing e a = clash e refl
+    deliver-ruled-by w k (Link c) e a = step-ruled g head< c (Link c) (s .flood) room k a
 
     run-ruled-by : (n : ℕ) (x : Cut) → standing x ≡ true → let r = machine.run g (failureOf g x) n (s .flood) in
         (shown x (r .flood) ≡ effect g (run n) x (shown x (s .flood))) × (r .made ≡ runMade g x n (shown x (s .flood)))
@@ -109,10 +109,10 @@ module _ (s : Session) (r : recordAnswer s ≡ Accepted) where
 
     -- where a call accepts, it makes what the rules make
     pub made-seen : (c : Call) → answerOf c s ≡ Accepted → seen (made c s) ≡ effect g c (s .cut) (seen s)
-    made-seen (cut k) e = begin-ruled g head< k (s .cut) (s .flood) room (cut-accepted s k e .0)
-    made-seen (deliver k) e = let (c, a) = deliver-accepted s k e in deliver-ruled-by k (s .cut) c a
+    made-seen (cut w k) e = begin-ruled g head< k (s .cut) (s .flood) room (cut-accepted s k e .0)
+    made-seen (deliver w k) e = let (c, a) = deliver-accepted s k e in deliver-ruled-by w k (s .cut) c a
     made-seen (run n) e = run-ruled-by n (s .cut) (run-accepted s e) .0
-    made-seen (mend k) e = fresh-seen (s .mesh) (s .plan)
+    made-seen (mend w k) e = fresh-seen (s .mesh) (s .plan)
     made-seen (status k) e = refl
 
     pub run-made : (n : ℕ) → runAnswer s ≡ Accepted → machine.run g (failure s) n (s .flood) .made ≡ runMade g (s .cut) n (seen s)

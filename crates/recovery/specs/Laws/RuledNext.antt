@@ -24,8 +24,8 @@ use Rattle.recovery.specs.Laws.RuledCalls.{Sized, seen, answerOf, made, 
 -- every call, as a cut or a mend, hands the session back where it refuses
 next-is : (c : Call) (s : Session) → next c s ≡ change (answerOf c s) s (made c s) .session
 unfolding afterCut afterDelivery afterRun afterMend
-next-is (cut k) s = refl
-next-is (deliver k) s = go (answerOf (deliver k) s) _
+next-is (cut w k) s = refl
+next-is (deliver w k) s = go (answerOf (deliver w k) s) _
   where
     go : (a : Answer) (f : Flood) → deliveryAs a s k f .session ≡ change a s (withFlood s f) .session
     go Accepted f = refl
@@ -35,7 +35,7 @@ next-is (run n) s = go (answerOf (run n) s) _
     go : (a : Answer) (r : machine.Ran) → runAs a s r .session ≡ change a s (withFlood s (r .flood)) .session
     go Accepted r = refl
     go (Refused number place) r = refl
-next-is (mend k) s = refl
+next-is (mend w k) s = refl
 next-is (status k) s = go (answerOf (status k) s)
   where
     go : (a : Answer) → s ≡ change a s s .session
@@ -56,10 +56,10 @@ pub next-mesh-plan : (c : Call) (s : Session) → (next c s .mesh ≡ s .mesh) �
 next-mesh-plan c s = next-keeps (λ t. (t .mesh ≡ s .mesh) × (t .plan ≡ s .plan)) c s (refl, refl) (go c)
   where
     go : (c : Call) → (made c s .mesh ≡ s .mesh) × (made c s .plan ≡ s .plan)
-    go (cut k) = (refl, refl)
-    go (deliver k) = (refl, refl)
+    go (cut w k) = (refl, refl)
+    go (deliver w k) = (refl, refl)
     go (run n) = (refl, refl)
-    go (mend k) = (refl, refl)
+    go (mend w k) = (refl, refl)
     go (status k) = (refl, refl)
 
 pub fresh-sized : (m : Mesh) (p : Plan) → Sized (freshOn m p)
@@ -77,10 +77,10 @@ next-sized c s z = next-keeps Sized c s z (go c)
     framed t F = record { states = F .states .sized ∙ z .states; reached = F .reached .sized ∙ z .reached }
 
     go : (c : Call) → Sized (made c s)
-    go (cut k) = framed (made (cut k) s) (begin-frame (digraph s) (failures.cut (digraph s) k) (s .flood))
-    go (deliver k) = framed (made (deliver k) s) (step-frame (digraph s) (failure s) (s .flood) k)
+    go (cut w k) = framed (made (cut w k) s) (begin-frame (digraph s) (failures.cut (digraph s) k) (s .flood))
+    go (deliver w k) = framed (made (deliver w k) s) (step-frame (digraph s) (failure s) (s .flood) k)
     go (run n) = framed (made (run n) s) (run-frame (digraph s) (failure s) n (s .flood))
-    go (mend k) = fresh-sized (s .mesh) (s .plan)
+    go (mend w k) = fresh-sized (s .mesh) (s .plan)
     go (status k) = z
 
 -- ---- what it changes

@@ -44,15 +44,15 @@ module _ (s : Session) where
   module _ (z : Sized s) (r : recordAnswer s ≡ Accepted) where
     pub reply-seen : (c : Call) → reply c s ≡ ruleReply g c (seen s)
     unfolding afterCut afterDelivery afterRun afterMend statusOf ruleNext
-    reply-seen (cut k) = change-answer _ _ ∙ refusal-is s r (cut k)
-    reply-seen (deliver k) =
-        let n : Now = effect g (deliver k) (s .cut) (seen s) in
-        delivery-reply (deliverAnswer s k) k _ n (made-seen s r z (deliver k))
-        ∙ ap (λ (a : Answer). deliverReply g a k (changedBy g a (seen s) n)) (refusal-is s r (deliver k))
+    reply-seen (cut w k) = change-answer _ _ ∙ refusal-is s r (cut w k)
+    reply-seen (deliver w k) =
+        let n : Now = effect g (deliver w k) (s .cut) (seen s) in
+        delivery-reply (deliverAnswer s k) k _ n (made-seen s r z (deliver w k))
+        ∙ ap (λ (a : Answer). deliverReply g a k (changedBy g a (seen s) n)) (refusal-is s r (deliver w k))
     reply-seen (run allowed) =
         let n : Now = effect g (run allowed) (s .cut) (seen s) in
         let count : ℕ = runMade g (s .cut) allowed (seen s) in
         run-reply (runAnswer s) (machine.run g (failure s) allowed (s .flood)) count n (made-seen s r z (run allowed)) (run-made s r z allowed)
         ∙ ap (λ (a : Answer). runReply g a count (changedBy g a (seen s) n)) (refusal-is s r (run allowed))
-    reply-seen (mend k) = change-answer _ _ ∙ refusal-is s r (mend k)
+    reply-seen (mend w k) = change-answer _ _ ∙ refusal-is s r (mend w k)
     reply-seen (status k) = status-reply (statusAnswer s k) k ∙ ap (λ (a : Answer). statusReply g a k (seen s)) (refusal-is s r (status k))
