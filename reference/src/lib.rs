@@ -18,6 +18,7 @@ pub mod record;
 pub mod refusal;
 pub mod script;
 pub mod session;
+pub mod table;
 pub mod timing;
 pub mod tree;
 pub mod two_pass_plan;

@@ -1,16 +1,20 @@
 //! `reference corpus SEED` writes a corpus; `reference expect` reads a corpus
 //! and writes its listing; `reference meshplan` reads a book and lists its
-//! mesh, its plan and every cut; `reference bench` repeats a job on a book;
-//! `reference time BENCH MESHPLAN` measures two programs with the same input
-//! and output as `reference bench` and `reference meshplan` against these.
+//! mesh, its plan and every cut; `reference book` reads a text table and writes
+//! its book; `reference table` reads a book and writes its text table;
+//! `reference bench` repeats a job on a book; `reference time BENCH MESHPLAN`
+//! measures two programs with the same input and output as `reference bench`
+//! and `reference meshplan` against these.
 
 use std::io::{self, Read, Write};
 use std::process::ExitCode;
 
+use reference::book::{bytes_of, decode};
 use reference::case::{read_cases, write_cases};
+use reference::refusal::in_words;
 use reference::timing::program::Program;
 use reference::timing::write_table;
-use reference::{bench, corpus, listing, meshplan};
+use reference::{bench, corpus, listing, meshplan, table};
 
 fn main() -> ExitCode {
     let arguments: Vec<String> = std::env::args().skip(1).collect();
@@ -19,6 +23,8 @@ fn main() -> ExitCode {
         ["corpus", seed] => seed.parse().map_or_else(|_| usage(), write_corpus),
         ["expect"] => finish(write_listing()),
         ["meshplan"] => finish(write_meshplan()),
+        ["book"] => exit(write_book()),
+        ["table"] => exit(write_text_table()),
         ["bench"] => finish(write_bench_line()),
         ["time", bench, meshplan] => finish(write_times(bench, meshplan)),
         _ => usage(),
@@ -28,7 +34,7 @@ fn main() -> ExitCode {
 fn usage() -> ExitCode {
     eprintln!(
         "usage: reference corpus SEED | reference expect | reference meshplan | \
-         reference bench | reference time BENCH MESHPLAN"
+         reference book | reference table | reference bench | reference time BENCH MESHPLAN"
     );
     ExitCode::from(2)
 }
@@ -47,6 +53,31 @@ fn write_listing() -> io::Result<()> {
 fn write_meshplan() -> io::Result<()> {
     let listing = meshplan::listing(&read_input()?);
     io::stdout().write_all(listing.as_bytes())
+}
+
+/// A table that is not a mesh is answered on stderr, with nothing on stdout.
+fn write_book() -> io::Result<ExitCode> {
+    match table::read(&String::from_utf8_lossy(&read_input()?)) {
+        Ok(mesh) => {
+            io::stdout().write_all(&bytes_of(&mesh))?;
+            Ok(ExitCode::SUCCESS)
+        }
+        Err(fault) => {
+            eprintln!("{fault}");
+            Ok(ExitCode::FAILURE)
+        }
+    }
+}
+
+/// The refusal of a book is the only line.
+fn write_text_table() -> io::Result<ExitCode> {
+    let (mesh, answer) = decode(&read_input()?);
+    let (text, code) = match answer {
+        Ok(()) => (table::text_of(&mesh), ExitCode::SUCCESS),
+        Err(_) => (format!("{}\n", in_words(answer)), ExitCode::FAILURE),
+    };
+    io::stdout().write_all(text.as_bytes())?;
+    Ok(code)
 }
 
 fn write_bench_line() -> io::Result<()> {
@@ -69,11 +100,12 @@ fn read_input() -> io::Result<Vec<u8>> {
 }
 
 fn finish(result: io::Result<()>) -> ExitCode {
-    match result {
-        Ok(()) => ExitCode::SUCCESS,
-        Err(error) => {
-            eprintln!("reference: {error}");
-            ExitCode::FAILURE
-        }
-    }
+    exit(result.map(|()| ExitCode::SUCCESS))
+}
+
+fn exit(result: io::Result<ExitCode>) -> ExitCode {
+    result.unwrap_or_else(|error| {
+        eprintln!("reference: {error}");
+        ExitCode::FAILURE
+    })
 }
