@@ -1,13 +1,15 @@
-//! `reference corpus SEED` writes a corpus; `reference expect` reads a corpus
-//! and writes its listing; `reference meshplan` reads a book and lists its
-//! mesh, its plan and every cut; `reference bench` repeats a job on a book;
+//! `reference corpus SEED BOOK..` writes a corpus, with each book file as a
+//! book to list at its end; `reference expect` reads a corpus and writes its
+//! listing; `reference meshplan` reads a book and lists its mesh, its plan and every
+//! cut; `reference bench` repeats a job on a book;
 //! `reference time BENCH MESHPLAN` measures two programs with the same input
 //! and output as `reference bench` and `reference meshplan` against these.
 
+use std::fs;
 use std::io::{self, Read, Write};
 use std::process::ExitCode;
 
-use reference::case::{read_cases, write_cases};
+use reference::case::{read_cases, write_cases, MOST_BYTES};
 use reference::timing::program::Program;
 use reference::timing::write_table;
 use reference::{bench, corpus, listing, meshplan};
@@ -16,7 +18,10 @@ fn main() -> ExitCode {
     let arguments: Vec<String> = std::env::args().skip(1).collect();
     let words: Vec<&str> = arguments.iter().map(String::as_str).collect();
     match words[..] {
-        ["corpus", seed] => seed.parse().map_or_else(|_| usage(), write_corpus),
+        ["corpus", seed, ref books @ ..] => match seed.parse() {
+            Ok(seed) => finish(write_corpus(seed, books)),
+            Err(_) => usage(),
+        },
         ["expect"] => finish(write_listing()),
         ["meshplan"] => finish(write_meshplan()),
         ["bench"] => finish(write_bench_line()),
@@ -27,15 +32,28 @@ fn main() -> ExitCode {
 
 fn usage() -> ExitCode {
     eprintln!(
-        "usage: reference corpus SEED | reference expect | reference meshplan | \
-         reference bench | reference time BENCH MESHPLAN"
+        "usage: reference corpus SEED BOOK.. | reference expect | \
+         reference meshplan | reference bench | reference time BENCH MESHPLAN"
     );
     ExitCode::from(2)
 }
 
-fn write_corpus(seed: u64) -> ExitCode {
-    let cases = corpus::make(seed);
-    finish(io::stdout().write_all(&write_cases(&cases)))
+fn write_corpus(seed: u64, books: &[&str]) -> io::Result<()> {
+    let mut cases = corpus::make(seed);
+    for path in books {
+        cases.push(corpus::listings::case(read_book(path)?));
+    }
+    io::stdout().write_all(&write_cases(&cases))
+}
+
+/// The bytes of a file, at most as many as a case can hold.
+fn read_book(path: &str) -> io::Result<Vec<u8>> {
+    let error = |why: String| io::Error::other(format!("{path}: {why}"));
+    let book = fs::read(path).map_err(|why| error(why.to_string()))?;
+    if book.len() > MOST_BYTES {
+        return Err(error(format!("more than {MOST_BYTES} bytes")));
+    }
+    Ok(book)
 }
 
 fn write_listing() -> io::Result<()> {

@@ -79,6 +79,23 @@ fn meshplan_reads_all_of_its_input() {
 }
 
 #[test]
+fn corpus_ends_with_the_books_that_are_given() {
+    let path = std::env::temp_dir().join(format!("reference-{}.book", std::process::id()));
+    let path = path.to_str().unwrap();
+    let corpus = |length: usize| {
+        std::fs::write(path, vec![1; length]).unwrap();
+        run(&["corpus", "1", path, path], b"")
+    };
+    let [longest, too_long] = [2_400, 2_401].map(corpus);
+    std::fs::remove_file(path).unwrap();
+    let plain = run(&["corpus", "1"], b"").stdout;
+    let case = [&b"L\x60\x09"[..], &[1; 2_400]].concat();
+    assert!(longest.stdout == [&plain[..], &case, &case].concat());
+    assert!(!too_long.status.success());
+    assert!(!run(&["corpus", "1", path], b"").status.success());
+}
+
+#[test]
 fn expect_lists_a_planning() {
     let output = run(&["expect"], b"P\x03\x03\0\0\x01\0\x02\x01\x02");
     let expected = "planning 0 3 3\nplan accepted\ndirections 010\nrest 0\n";
