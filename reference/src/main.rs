@@ -1,6 +1,8 @@
 //! `reference corpus SEED BOOK..` writes a corpus, with each book file as a
 //! book to list at its end; `reference expect` reads a corpus and writes its
-//! listing; `reference meshplan` reads a book and lists its mesh, its plan and every
+//! listing; `reference case CALL..` reads a book and writes the case of a
+//! script that starts on the mesh's plan and makes these calls;
+//! `reference meshplan` reads a book and lists its mesh, its plan and every
 //! cut; `reference bench` repeats a job on a book;
 //! `reference time BENCH MESHPLAN` measures two programs with the same input
 //! and output as `reference bench` and `reference meshplan` against these.
@@ -9,7 +11,11 @@ use std::fs;
 use std::io::{self, Read, Write};
 use std::process::ExitCode;
 
-use reference::case::{read_cases, write_cases, MOST_BYTES};
+use reference::book::decode;
+use reference::case::{read_cases, write_cases, Case, MOST_BYTES};
+use reference::plan::plan;
+use reference::refusal::{in_words, Refusal};
+use reference::script::{calls_of, Call, Origin, Script, CALLS};
 use reference::timing::program::Program;
 use reference::timing::write_table;
 use reference::{bench, corpus, listing, meshplan};
@@ -23,6 +29,10 @@ fn main() -> ExitCode {
             Err(_) => usage(),
         },
         ["expect"] => finish(write_listing()),
+        ["case", ref words @ ..] => match calls_of(words) {
+            Some(calls) => finish(write_script(calls)),
+            None => usage_of_calls(),
+        },
         ["meshplan"] => finish(write_meshplan()),
         ["bench"] => finish(write_bench_line()),
         ["time", bench, meshplan] => finish(write_times(bench, meshplan)),
@@ -32,9 +42,14 @@ fn main() -> ExitCode {
 
 fn usage() -> ExitCode {
     eprintln!(
-        "usage: reference corpus SEED BOOK.. | reference expect | \
+        "usage: reference corpus SEED BOOK.. | reference expect | reference case CALL.. | \
          reference meshplan | reference bench | reference time BENCH MESHPLAN"
     );
+    ExitCode::from(2)
+}
+
+fn usage_of_calls() -> ExitCode {
+    eprintln!("usage: each call is one of: {CALLS}");
     ExitCode::from(2)
 }
 
@@ -54,6 +69,21 @@ fn read_book(path: &str) -> io::Result<Vec<u8>> {
         return Err(error(format!("more than {MOST_BYTES} bytes")));
     }
     Ok(book)
+}
+
+/// The book's mesh must have a plan.
+fn write_script(calls: Vec<Call>) -> io::Result<()> {
+    let book = read_input()?;
+    let refused = |refusal: Refusal| io::Error::other(in_words(Err(refusal)));
+    let (mesh, answer) = decode(&book);
+    answer.and(plan(&mesh).1).map_err(refused)?;
+    let origin = Origin::OwnPlan;
+    let script = Script {
+        book,
+        origin,
+        calls,
+    };
+    io::stdout().write_all(&write_cases(&[Case::Script(script)]))
 }
 
 fn write_listing() -> io::Result<()> {
