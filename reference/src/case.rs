@@ -8,6 +8,7 @@ const BOOK: u8 = b'B';
 const MESH: u8 = b'M';
 const PLANNING: u8 = b'P';
 const SCRIPT: u8 = b'S';
+const LISTING: u8 = b'L';
 
 /// The greatest room of a case and the greatest length of its book.
 pub const MOST_BYTES: usize = 2_400;
@@ -23,6 +24,8 @@ pub enum Case {
     Planning { mesh: Box<Mesh> },
     /// Calls on a session.
     Script(Script),
+    /// A book to list as the program meshplan does.
+    Listing { book: Vec<u8> },
 }
 
 /// The bytes of a corpus, one case after the other.
@@ -37,6 +40,10 @@ pub fn write_cases(cases: &[Case]) -> Vec<u8> {
                 output.push(SCRIPT);
                 write_script(script, &mut output);
             }
+            Case::Listing { book } => {
+                output.push(LISTING);
+                write_bytes(book, &mut output);
+            }
         }
     }
     output
@@ -46,6 +53,11 @@ fn write_book(room: u16, link: u16, book: &[u8], output: &mut Vec<u8>) {
     output.push(BOOK);
     output.extend(room.to_le_bytes());
     output.extend(link.to_le_bytes());
+    write_bytes(book, output);
+}
+
+/// The length and the book.
+fn write_bytes(book: &[u8], output: &mut Vec<u8>) {
     output.extend((book.len() as u16).to_le_bytes());
     output.extend(book);
 }
@@ -93,6 +105,7 @@ fn read_case(reader: &mut Reader) -> Option<Case> {
         MESH => read_mesh(reader),
         PLANNING => read_planning(reader),
         SCRIPT => read_script(reader).map(Case::Script),
+        LISTING => read_bytes(reader).map(|book| Case::Listing { book }),
         _ => None,
     }
 }
@@ -100,9 +113,13 @@ fn read_case(reader: &mut Reader) -> Option<Case> {
 fn read_book(reader: &mut Reader) -> Option<Case> {
     let room = reader.two()?;
     let link = reader.two()?;
-    let length = reader.two()?;
-    let book = reader.take(length.into())?.to_vec();
+    let book = read_bytes(reader)?;
     Some(Case::Book { room, link, book })
+}
+
+fn read_bytes(reader: &mut Reader) -> Option<Vec<u8>> {
+    let length = reader.two()?;
+    Some(reader.take(length.into())?.to_vec())
 }
 
 fn read_mesh(reader: &mut Reader) -> Option<Case> {

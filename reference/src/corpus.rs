@@ -7,6 +7,7 @@ pub mod faults;
 pub mod graphs;
 pub mod headers;
 pub mod largest_graphs;
+pub mod listings;
 pub mod mesh_records;
 pub mod meshes;
 pub mod named_graphs;
@@ -26,7 +27,7 @@ use crate::case::Case;
 use crate::random::Random;
 
 /// All cases of the corpus: books first, then mesh records, then plannings,
-/// then scripts.
+/// then scripts, then books to list.
 pub fn make(seed: u64) -> Vec<Case> {
     let mut random = Random::new(seed);
     let books = all_books(&mut random);
@@ -38,6 +39,7 @@ pub fn make(seed: u64) -> Vec<Case> {
     cases.extend(mesh_records::cases(&mut random));
     cases.extend(planning::cases(&mut random));
     cases.extend(scripts::cases(&mut random));
+    cases.extend(listings::cases(&mut random));
     cases
 }
 

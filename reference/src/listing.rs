@@ -5,6 +5,7 @@ pub mod scripts;
 use crate::book::{decode, encode, record};
 use crate::case::Case;
 use crate::mesh::{Link, Mesh};
+use crate::meshplan::add_listing;
 use crate::plain_plan::checked_plan;
 use crate::refusal::{in_words, Answer};
 
@@ -21,6 +22,7 @@ pub fn listing(cases: &[Case]) -> Result<String, String> {
             Case::Mesh { room, mesh } => lines.mesh_record(number, *room, mesh),
             Case::Planning { mesh } => lines.planning(number, mesh)?,
             Case::Script(script) => lines.script(number, script),
+            Case::Listing { book } => lines.listed(number, book),
         }
     }
     Ok(lines.text)
@@ -60,6 +62,11 @@ impl Lines {
         let rest = past.filter(|direction| **direction != 0).count();
         self.line(&format!("rest {rest}"));
         Ok(())
+    }
+
+    fn listed(&mut self, number: usize, book: &[u8]) {
+        self.line(&format!("listing {number}"));
+        add_listing(book, &mut self.text);
     }
 
     fn mesh(&mut self, mesh: &Mesh) {
@@ -162,6 +169,17 @@ mod tests {
             planning 1 3 2\nplan refused 21 0\ndirections 00\nrest 0\n\
             planning 2 2 0\nplan refused 20 1\ndirections\nrest 0\n";
         let cases = [triangle, path, planning(2, &[])];
+        assert_eq!(listing(&cases).unwrap(), expected);
+    }
+
+    #[test]
+    fn lists_books_as_meshplan_does() {
+        let listed = |book: &[u8]| Case::Listing {
+            book: book.to_vec(),
+        };
+        let cases = [listed(&[1, 3, 3, 0, 0, 2, 2, 1, 1]), listed(&[1, 2, 0])];
+        let expected = "listing 0\nmesh 3 3\nlink 0 0 1 0\nlink 1 0 2 1\nlink 2 1 2 0\n\
+            cut 0 0 1 2 1 2\ncut 1 2 0 2 2 0\ncut 2 1 2 2 0 1\nlisting 1\nrefused 1 3\n";
         assert_eq!(listing(&cases).unwrap(), expected);
     }
 }

@@ -1,17 +1,23 @@
-//! `reference corpus SEED` writes a corpus; `reference expect` reads a corpus
-//! and writes its listing; `reference meshplan` reads a book and lists its
-//! mesh, its plan and every cut; `reference book` reads a text table and writes
-//! its book; `reference table` reads a book and writes its text table;
+//! `reference corpus SEED BOOK..` writes a corpus, with each book file as a
+//! book to list at its end; `reference expect` reads a corpus and writes its
+//! listing; `reference case CALL..` reads a book and writes the case of a
+//! script that starts on the mesh's plan and makes these calls;
+//! `reference meshplan` reads a book and lists its mesh, its plan and every
+//! cut; `reference book` reads a text table and writes its book;
+//! `reference table` reads a book and writes its text table;
 //! `reference bench` repeats a job on a book; `reference time BENCH MESHPLAN`
 //! measures two programs with the same input and output as `reference bench`
 //! and `reference meshplan` against these.
 
+use std::fs;
 use std::io::{self, Read, Write};
 use std::process::ExitCode;
 
 use reference::book::{bytes_of, decode};
-use reference::case::{read_cases, write_cases};
-use reference::refusal::in_words;
+use reference::case::{read_cases, write_cases, Case, MOST_BYTES};
+use reference::plan::plan;
+use reference::refusal::{in_words, Refusal};
+use reference::script::{calls_of, Call, Origin, Script, CALLS};
 use reference::timing::program::Program;
 use reference::timing::write_table;
 use reference::{bench, corpus, listing, meshplan, table};
@@ -20,8 +26,15 @@ fn main() -> ExitCode {
     let arguments: Vec<String> = std::env::args().skip(1).collect();
     let words: Vec<&str> = arguments.iter().map(String::as_str).collect();
     match words[..] {
-        ["corpus", seed] => seed.parse().map_or_else(|_| usage(), write_corpus),
+        ["corpus", seed, ref books @ ..] => match seed.parse() {
+            Ok(seed) => finish(write_corpus(seed, books)),
+            Err(_) => usage(),
+        },
         ["expect"] => finish(write_listing()),
+        ["case", ref words @ ..] => match calls_of(words) {
+            Some(calls) => finish(write_script(calls)),
+            None => usage_of_calls(),
+        },
         ["meshplan"] => finish(write_meshplan()),
         ["book"] => exit(write_book()),
         ["table"] => exit(write_text_table()),
@@ -33,15 +46,49 @@ fn main() -> ExitCode {
 
 fn usage() -> ExitCode {
     eprintln!(
-        "usage: reference corpus SEED | reference expect | reference meshplan | \
-         reference book | reference table | reference bench | reference time BENCH MESHPLAN"
+        "usage: reference corpus SEED BOOK.. | reference expect | reference case CALL.. | \
+         reference meshplan | reference book | reference table | reference bench | \
+         reference time BENCH MESHPLAN"
     );
     ExitCode::from(2)
 }
 
-fn write_corpus(seed: u64) -> ExitCode {
-    let cases = corpus::make(seed);
-    finish(io::stdout().write_all(&write_cases(&cases)))
+fn usage_of_calls() -> ExitCode {
+    eprintln!("usage: each call is one of: {CALLS}");
+    ExitCode::from(2)
+}
+
+fn write_corpus(seed: u64, books: &[&str]) -> io::Result<()> {
+    let mut cases = corpus::make(seed);
+    for path in books {
+        cases.push(corpus::listings::case(read_book(path)?));
+    }
+    io::stdout().write_all(&write_cases(&cases))
+}
+
+/// The bytes of a file, at most as many as a case can hold.
+fn read_book(path: &str) -> io::Result<Vec<u8>> {
+    let error = |why: String| io::Error::other(format!("{path}: {why}"));
+    let book = fs::read(path).map_err(|why| error(why.to_string()))?;
+    if book.len() > MOST_BYTES {
+        return Err(error(format!("more than {MOST_BYTES} bytes")));
+    }
+    Ok(book)
+}
+
+/// The book's mesh must have a plan.
+fn write_script(calls: Vec<Call>) -> io::Result<()> {
+    let book = read_input()?;
+    let refused = |refusal: Refusal| io::Error::other(in_words(Err(refusal)));
+    let (mesh, answer) = decode(&book);
+    answer.and(plan(&mesh).1).map_err(refused)?;
+    let origin = Origin::OwnPlan;
+    let script = Script {
+        book,
+        origin,
+        calls,
+    };
+    io::stdout().write_all(&write_cases(&[Case::Script(script)]))
 }
 
 fn write_listing() -> io::Result<()> {

@@ -1,8 +1,10 @@
 //! A script: a list of calls on a session.
 
 mod bytes;
+mod words;
 
 pub use bytes::{read_script, write_script};
+pub use words::{calls_of, CALLS};
 
 use crate::book::decode;
 use crate::mesh::{Link, Mesh, MOST_LINKS};

@@ -79,6 +79,41 @@ fn meshplan_reads_all_of_its_input() {
 }
 
 #[test]
+fn corpus_ends_with_the_books_that_are_given() {
+    let path = std::env::temp_dir().join(format!("reference-{}.book", std::process::id()));
+    let path = path.to_str().unwrap();
+    let corpus = |length: usize| {
+        std::fs::write(path, vec![1; length]).unwrap();
+        run(&["corpus", "1", path, path], b"")
+    };
+    let [longest, too_long] = [2_400, 2_401].map(corpus);
+    std::fs::remove_file(path).unwrap();
+    let plain = run(&["corpus", "1"], b"").stdout;
+    let case = [&b"L\x60\x09"[..], &[1; 2_400]].concat();
+    assert!(longest.stdout == [&plain[..], &case, &case].concat());
+    assert!(!too_long.status.success());
+    assert!(!run(&["corpus", "1", path], b"").status.success());
+}
+
+#[test]
+fn case_writes_a_script() {
+    let calls = ["case", "cut", "4", "run", "256", "route"];
+    let expected = [b"S\x0d\0", &P5[..], b"\0\x03\0C\x04\0R\0\x01\0\0Q"].concat();
+    assert_eq!(run(&calls, &P5).stdout, expected);
+    for (book, why) in [
+        (&[1, 2, 1, 0, 2, 1][..], "reference: refused 9 4\n"),
+        (&[1, 2, 1, 0, 0], "reference: refused 21 0\n"),
+    ] {
+        let output = run(&calls, book);
+        assert!(!output.status.success());
+        assert_eq!(String::from_utf8(output.stderr).unwrap(), why);
+    }
+    let output = run(&["case", "cut", "4", "wait"], b"");
+    assert_eq!(output.status.code(), Some(2));
+    assert!(output.stderr.starts_with(b"usage: "));
+}
+
+#[test]
 fn expect_lists_a_planning() {
     let output = run(&["expect"], b"P\x03\x03\0\0\x01\0\x02\x01\x02");
     let expected = "planning 0 3 3\nplan accepted\ndirections 010\nrest 0\n";

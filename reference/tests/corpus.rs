@@ -3,7 +3,7 @@
 use std::collections::BTreeSet;
 
 use reference::case::{read_cases, write_cases, Case, MOST_BYTES};
-use reference::corpus::{self, scripts};
+use reference::corpus::{self, listings, scripts};
 use reference::listing::listing;
 use reference::random::Random;
 
@@ -21,15 +21,17 @@ fn listed(cases: &[Case]) -> String {
     listing(cases).expect("both methods of planning agree")
 }
 
-/// The number of cases of each kind: books, mesh records, plannings, scripts.
-fn counts(cases: &[Case]) -> [usize; 4] {
-    let mut counts = [0; 4];
+/// The number of cases of each kind: books, mesh records, plannings, scripts,
+/// books to list.
+fn counts(cases: &[Case]) -> [usize; 5] {
+    let mut counts = [0; 5];
     for case in cases {
         counts[match case {
             Case::Book { .. } => 0,
             Case::Mesh { .. } => 1,
             Case::Planning { .. } => 2,
             Case::Script(_) => 3,
+            Case::Listing { .. } => 4,
         }] += 1;
     }
     counts
@@ -74,28 +76,33 @@ fn an_ill_formed_corpus_is_an_error() {
 fn counts_and_sizes() {
     for seed in SEEDS {
         let cases = corpus::make(seed);
-        let [books, mesh_records, plannings, scripts] = counts(&cases);
+        let [books, mesh_records, plannings, scripts, listings] = counts(&cases);
         assert!(books >= 2_400);
         assert!(mesh_records >= 300);
         assert!(plannings >= 1_200);
         assert!(scripts >= 1_100);
+        assert!(listings >= 800);
         assert!(write_cases(&cases).len() < 1_200_000);
-        assert!(listed(&cases).len() < 3_000_000);
+        assert!(listed(&cases).len() < 4_500_000);
     }
 }
 
 #[test]
-fn plannings_and_scripts_come_last_and_are_small() {
+fn plannings_scripts_and_books_to_list_come_last_and_are_small() {
     for seed in SEEDS {
         let cases = corpus::make(seed);
-        let [_, _, plannings, scripts] = counts(&cases);
-        let (rest, scripts) = cases.split_at(cases.len() - scripts);
+        let [_, _, plannings, scripts, listings] = counts(&cases);
+        let (rest, listings) = cases.split_at(cases.len() - listings);
+        let (rest, scripts) = rest.split_at(rest.len() - scripts);
         let plannings = &rest[rest.len() - plannings..];
         assert_eq!(counts(plannings)[2], plannings.len());
         assert!(write_cases(plannings).len() < 350_000);
         assert_eq!(counts(scripts)[3], scripts.len());
         assert!(write_cases(scripts).len() < 400_000);
         assert!(listed(scripts).len() < 900_000);
+        assert_eq!(counts(listings)[4], listings.len());
+        assert!(write_cases(listings).len() < 200_000);
+        assert!(listed(listings).len() < 1_500_000);
     }
 }
 
@@ -108,6 +115,7 @@ fn rooms_and_books_are_within_the_limit() {
                 Case::Mesh { room, .. } => (room, 0),
                 Case::Planning { .. } => (0, 0),
                 Case::Script(script) => (0, script.book.len()),
+                Case::Listing { book } => (0, book.len()),
             };
             assert!(usize::from(room) <= MOST_BYTES);
             assert!(length <= MOST_BYTES);
@@ -136,6 +144,26 @@ fn every_refusal_is_met() {
         assert!(count("plan accepted") >= 700);
         assert!(count("plan refused 20 ") >= 200);
         assert!(count("plan refused 21 ") >= 300);
+    }
+}
+
+#[test]
+fn every_refusal_of_a_listing_is_met() {
+    for seed in SEEDS {
+        let text = listed(&listings::cases(&mut Random::new(seed)));
+        let refused = text
+            .lines()
+            .filter_map(|line| line.strip_prefix("refused "));
+        let numbers = refused.map(|rest| rest.split(' ').next().unwrap().parse().unwrap());
+        let expected = BTreeSet::from_iter((1..=10).chain([20, 21]));
+        assert_eq!(numbers.collect::<BTreeSet<u8>>(), expected);
+        assert!(
+            text.lines()
+                .filter(|line| line.starts_with("mesh "))
+                .count()
+                >= 500
+        );
+        assert_eq!(text.matches("mesh 64 256\n").count(), 3);
     }
 }
 

@@ -1,5 +1,6 @@
-// One case of the corpus: a book, a mesh record, a mesh to plan, or a script.
+// One case of the corpus: a book, a mesh record, a mesh to plan, a script, or a book to list.
 use crate::book::run_book;
+use crate::listed::run_listed;
 use crate::planning::run_planning;
 use crate::record::run_mesh;
 use crate::script::run_script;
@@ -36,6 +37,9 @@ pub(crate) fn run_case(case: u64) -> bool {
     }
     if kind[0] == b'S' {
         return run_script(case);
+    }
+    if kind[0] == b'L' {
+        return run_listed(case);
     }
     false
 }

@@ -2,6 +2,7 @@
 mod book;
 mod case;
 mod input;
+mod listed;
 mod planning;
 mod print;
 mod record;

@@ -1,7 +1,4 @@
-// Reads a book from standard input and writes its mesh, its plan and what each cut leads to (01, the program meshplan).
-mod line;
-mod listing;
-
+// Reads a book from standard input and prints its listing (01, the program meshplan).
 use libc::STDIN_FILENO;
 
 fn main() {

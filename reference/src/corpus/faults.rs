@@ -21,7 +21,7 @@ pub fn books(random: &mut Random) -> Vec<Vec<u8>> {
 }
 
 /// Each fault in the first, a middle and the last record.
-fn faults_in_each_place(mesh: &Mesh) -> Vec<Vec<u8>> {
+pub fn faults_in_each_place(mesh: &Mesh) -> Vec<Vec<u8>> {
     let last = mesh.counted().len() - 1;
     let mut books = Vec::new();
     for at in [0, last / 2, last] {

@@ -34,7 +34,7 @@ pub fn books(random: &mut Random) -> Vec<Vec<u8>> {
 }
 
 /// 2, 3 or 4.
-fn one_wrong(mesh: &Mesh) -> Vec<Draft> {
+pub fn one_wrong(mesh: &Mesh) -> Vec<Draft> {
     let good = Draft::of(mesh);
     let mut drafts = Vec::new();
     drafts.extend(VERSIONS.map(|version| Draft {

@@ -2,6 +2,7 @@
 
 pub mod caller;
 pub mod examples;
+pub mod exercise;
 pub mod faults;
 pub mod grounds;
 pub mod ill_formed;
@@ -14,6 +15,7 @@ use crate::random::Random;
 
 pub fn cases(random: &mut Random) -> Vec<Case> {
     let mut scripts = examples::scripts();
+    scripts.extend(exercise::scripts());
     scripts.extend(lists::scripts(random));
     scripts.extend(plans::scripts(random));
     scripts.extend(ill_formed::scripts(random));

@@ -1,9 +1,9 @@
--- `meshplan::listing::print_links` is safe and ends.
+-- `listing::print_links` is safe and ends.
 use borrow.Author.Needs.{needs}
 use native.Mathlib.Omega.{arith}
 use Prim.Native.Nat.{_-_, _≤_}
-use Rattle.meshplan.proofs.listing.print_links.Statement.{statement}
-use Rattle.meshplan.proofs.listing.print_links.Tie as tie
+use Rattle.listing.proofs.print_links.Statement.{statement}
+use Rattle.listing.proofs.print_links.Tie as tie
 
 abbrev Inv-loop : tie.InvT-loop
 Inv-loop m count directions i₀ i = i ≤ 256

@@ -1,11 +1,11 @@
--- `meshplan::line::put_word` stays within the line.
+-- `listing::line::put_word` stays within the line.
 use borrow.Author.Needs.{needs}
 use native.Mathlib.Omega.{arith}
 use mathlib.Core.Path.{_≡_, _∙_}
 use Prim.Native.Nat.{_-_, _≤_}
 use lib.ListN.{length}
-use Rattle.meshplan.proofs.line.put_word.Statement.{statement}
-use Rattle.meshplan.proofs.line.put_word.Tie as tie
+use Rattle.listing.proofs.line.put_word.Statement.{statement}
+use Rattle.listing.proofs.line.put_word.Tie as tie
 
 abbrev Inv-loop : tie.InvT-loop
 Inv-loop line₀ at word next₀ i₀ line next i = (next ≤ length line) × ((length line ≡ length line₀) × (i ≤ length word))

@@ -1,9 +1,9 @@
--- `meshplan::line::put_byte` stays within the line.
+-- `listing::line::put_byte` stays within the line.
 use native.Mathlib.Omega.{arith}
 use lib.ListN.{length-set}
 use borrow.Author.Needs.{needs}
-use Rattle.meshplan.proofs.line.put_byte.Statement.{statement}
-use Rattle.meshplan.proofs.line.put_byte.Tie as tie
+use Rattle.listing.proofs.line.put_byte.Statement.{statement}
+use Rattle.listing.proofs.line.put_byte.Tie as tie
 
 slice-write-line : tie.Need-slice-write-line
 slice-write-line c = search needs

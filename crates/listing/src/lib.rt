@@ -1,4 +1,6 @@
-// The listing of a book.
+// The listing of a book: its mesh, its plan and what each cut leads to (01, the program meshplan).
+mod line;
+
 ghost use Prim.Native.Nat.{_≤_};
 ghost use lib.ListN.{length};
 use crate::line::print;
@@ -15,7 +17,10 @@ use recovery::Session;
 // The allowance of an unhindered run.
 const UNHINDERED: u32 = 4294967295;
 
-pub(crate) fn print_book(book: &[u8]) {
+// Prints the listing of a book to standard output. A first line holds N and L. Each link line holds number, ends and
+// direction. Each cut line holds link, x, y, deliveries of an unhindered run, and the route's links from x on. A refusal of
+// reading or planning is the only line: `refused`, number and place.
+pub fn print_book(book: &[u8]) {
     let d = codec::decode(book);
     let a = d.answer;
     let Answer::Accepted = a else {

@@ -1,11 +1,11 @@
--- `meshplan::listing::put_route` stays within the line.
+-- `listing::put_route` stays within the line.
 use borrow.Author.Needs.{needs}
 use native.Mathlib.Omega.{arith}
 use mathlib.Core.Path.{_≡_, _∙_}
 use Prim.Native.Nat.{_-_, _≤_}
 use lib.ListN as lists
-use Rattle.meshplan.proofs.listing.put_route.Statement.{statement}
-use Rattle.meshplan.proofs.listing.put_route.Tie as tie
+use Rattle.listing.proofs.put_route.Statement.{statement}
+use Rattle.listing.proofs.put_route.Tie as tie
 
 abbrev Inv-loop : tie.InvT-loop
 Inv-loop line₀ at route length next₀ i₀ line next i = (next ≤ lists.length line) × ((lists.length line ≡ lists.length line₀) × (i ≤ 256))

@@ -1,9 +1,9 @@
--- `meshplan::listing::print_cuts` is safe and ends.
+-- `listing::print_cuts` is safe and ends.
 use borrow.Author.Needs.{needs}
 use native.Mathlib.Omega.{arith}
 use Prim.Native.Nat.{_-_, _≤_}
-use Rattle.meshplan.proofs.listing.print_cuts.Statement.{statement}
-use Rattle.meshplan.proofs.listing.print_cuts.Tie as tie
+use Rattle.listing.proofs.print_cuts.Statement.{statement}
+use Rattle.listing.proofs.print_cuts.Tie as tie
 
 abbrev Inv-loop : tie.InvT-loop
 Inv-loop count fresh k₀ k = k ≤ count
