@@ -1,3 +1,1 @@
-mod Returned
 mod Returns
-mod Walk

@@ -1,16 +1,26 @@
--- What the calls by value return: a change by cut and mend, a delivery by deliver.
+-- The session as a state, and what the calls by value return: a change by cut and mend, a delivery by deliver.
 use mathlib.Core.Path.{refl}
-use Rattle.recovery.specs.declared.Change.{Change}
-use Rattle.recovery.specs.declared.Delivery.{Delivery}
+use Rattle.lent.specs.Returned.{State, Returned}
 use Rattle.mesh.proofs.Answer as answer
 use Rattle.mesh.proofs.Answer.Laws as answer-laws
+use Rattle.recovery.specs.declared.Change.{Change}
+use Rattle.recovery.specs.declared.Delivery.{Delivery}
+use Rattle.recovery.proofs.Session as session
+use Rattle.recovery.proofs.Session.Laws as session-laws
 use Rattle.recovery.proofs.Change as change
 use Rattle.recovery.proofs.Delivered as delivered
 use Rattle.recovery.proofs.Delivered.Laws as delivered-laws
 use Rattle.recovery.proofs.Delivery as delivery
-use Rattle.recovery.proofs.in_place.Returned.{Returned}
 
-abbrev pub ofChange : Returned
+abbrev pub ofSession : State
+ofSession = record {
+  T = session.the-type;
+  laws = session-laws.the-laws;
+  plain = session-laws.the-plain;
+  lowers = session-laws.lowers;
+}
+
+abbrev pub ofChange : Returned ofSession
 ofChange = record {
   E = answer.the-type;
   laws = answer-laws.the-laws;
@@ -19,7 +29,7 @@ ofChange = record {
   lowers = answer-laws.lowers;
   name = change.struct .name;
   D = Change;
-  session = λ d. d .session;
+  state = λ d. d .session;
   answer = λ d. d .answer;
   make = λ s a. record { session = s; answer = a };
   eta = λ d. refl;
@@ -27,7 +37,7 @@ ofChange = record {
   propositions = change.propositions;
 }
 
-abbrev pub ofDelivery : Returned
+abbrev pub ofDelivery : Returned ofSession
 ofDelivery = record {
   E = delivered.the-type;
   laws = delivered-laws.the-laws;
@@ -36,7 +46,7 @@ ofDelivery = record {
   lowers = delivered-laws.lowers;
   name = delivery.struct .name;
   D = Delivery;
-  session = λ d. d .session;
+  state = λ d. d .session;
   answer = λ d. d .answer;
   make = λ s a. record { session = s; answer = a };
   eta = λ d. refl;

@@ -1,0 +1,1 @@
+// Theory only: calls on a struct that is lent.
