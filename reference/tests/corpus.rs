@@ -83,7 +83,7 @@ fn counts_and_sizes() {
         assert!(scripts >= 1_100);
         assert!(listings >= 800);
         assert!(write_cases(&cases).len() < 1_200_000);
-        assert!(listed(&cases).len() < 4_500_000);
+        assert!(listed(&cases).len() < 5_500_000);
     }
 }
 
@@ -99,7 +99,7 @@ fn plannings_scripts_and_books_to_list_come_last_and_are_small() {
         assert!(write_cases(plannings).len() < 350_000);
         assert_eq!(counts(scripts)[3], scripts.len());
         assert!(write_cases(scripts).len() < 400_000);
-        assert!(listed(scripts).len() < 900_000);
+        assert!(listed(scripts).len() < 1_900_000);
         assert_eq!(counts(listings)[4], listings.len());
         assert!(write_cases(listings).len() < 200_000);
         assert!(listed(listings).len() < 1_500_000);

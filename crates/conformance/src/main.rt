@@ -1,5 +1,6 @@
 // Reads the corpus from standard input and prints what the library answers to each case (docs/CORPUS.md).
 mod book;
+mod call;
 mod case;
 mod in_place;
 mod input;

@@ -6,6 +6,13 @@ pub(crate) fn word(text: &[u8]) {
     io::write_all(STDOUT_FILENO, text);
 }
 
+// The beginning of a line about the session on which calls are made in place.
+pub(crate) fn form(lent: bool) {
+    if lent {
+        word(b"in-place ");
+    }
+}
+
 // A space and a number.
 pub(crate) fn number(n: u64) {
     io::write_all(STDOUT_FILENO, b" ");

@@ -6,6 +6,7 @@ use crate::input::next_two;
 use crate::print::answer;
 use crate::print::end;
 use crate::print::field;
+use crate::print::form;
 use crate::print::number;
 use crate::print::refused;
 use crate::print::word;
@@ -149,7 +150,8 @@ fn read_link(m: Mesh) -> Mesh {
     )
 }
 
-pub(crate) fn show_session(s: Session) {
+pub(crate) fn show_session(s: Session, lent: bool) {
+    form(lent);
     let cut = s.cut;
     match cut {
         Cut::Link(k) => field(b"cut-is", k as u64),
@@ -158,8 +160,10 @@ pub(crate) fn show_session(s: Session) {
     end();
     let flood = s.flood;
     let states = flood.states;
+    form(lent);
     show_states(&states);
     let reached = flood.reached;
+    form(lent);
     show_reached(&reached);
 }
 

@@ -1,2 +1,4 @@
 pub mod Returned
+pub mod Contracts
 pub mod StoreBack
+pub mod LendOut

@@ -20,6 +20,7 @@ pub record State : Type 2 where
   pub T : fields.Declared
   pub laws : struct-laws.Laws T
   pub plain : Plains (fields.fields T)
+  pub copy : struct-laws.Copyables (T .parts)
   pub lowers : struct-laws.Lowered T
 
 module _ (S : State) where
@@ -94,3 +95,6 @@ module _ (S : State) (R : Returned S) where
 
   pub answer-is : (r : R .D) (vs : List Val) → Is returned-row r vs → Is answer-row (R .answer r) (answer-val (R .answer r) ∷ [])
   answer-is r vs is = struct-laws.owed returned returned-laws r vs is .1 .0
+
+  pub returned-is : (r : R .D) → Is (state-row S) (R .state r) (state-vals S (R .state r)) → Is answer-row (R .answer r) (answer-val (R .answer r) ∷ []) → Is returned-row r (struct-laws.vals returned returned-laws r)
+  returned-is r s a = struct-laws.owes returned returned-laws r (s, (a, tt))

@@ -5,6 +5,9 @@ use crate::refusal::{in_words, Refusal};
 use crate::script::{Call, Script};
 use crate::session::{Delivery, Run, Session, Status, RELEASED};
 
+/// How lines about the session on which calls are made in place begin.
+const IN_PLACE: &str = "in-place ";
+
 impl Lines {
     pub fn script(&mut self, number: usize, script: &Script) {
         self.line(&format!("script {number}"));
@@ -12,22 +15,25 @@ impl Lines {
         if let Some(answer) = answer {
             self.answer("start", answer);
         }
+        let mut lent = session.clone();
         for call in &script.calls {
             self.line(&call_line(&mut session, *call));
+            self.line(&format!("{IN_PLACE}{}", call_line(&mut lent, *call)));
         }
-        self.session(&session);
+        self.session("", &session);
+        self.session(IN_PLACE, &lent);
     }
 
-    fn session(&mut self, session: &Session) {
+    fn session(&mut self, form: &str, session: &Session) {
         match session.cut {
-            None => self.line("cut none"),
-            Some(link) => self.line(&format!("cut-is {link}")),
+            None => self.line(&format!("{form}cut none")),
+            Some(link) => self.line(&format!("{form}cut-is {link}")),
         }
         let states: String = session.states.iter().map(|state| digit(*state)).collect();
-        self.line(&format!("states {states}"));
+        self.line(&format!("{form}states {states}"));
         let all = (0..).zip(session.reached);
         let reached = all.filter(|node| node.1).map(|node| node.0);
-        self.digits("reached", &spaced(reached));
+        self.digits(&format!("{form}reached"), &spaced(reached));
     }
 }
 
@@ -105,8 +111,20 @@ mod tests {
         listing(&[Case::Script(script)]).unwrap()
     }
 
-    fn states(first: &str) -> String {
-        format!("states {first:0<256}\n")
+    /// The lines before the calls, then each call's line by value and in place, then the session's lines likewise.
+    fn both(before: &str, calls: &str, cut: &str, states: &str, reached: &str) -> String {
+        let again = |lines: &str| -> String {
+            lines
+                .lines()
+                .map(|line| format!("in-place {line}\n"))
+                .collect()
+        };
+        let calls: String = calls
+            .lines()
+            .map(|line| format!("{line}\n{}", again(line)))
+            .collect();
+        let session = format!("{cut}\nstates {states:0<256}\n{reached}\n");
+        format!("{before}{calls}{session}{}", again(&session))
     }
 
     #[test]
@@ -124,20 +142,21 @@ mod tests {
             Call::Route,
             Call::Mend(3),
         ];
-        let lines = "script 0\nstart accepted\nstatus 0 state 0 busy 0 route 0\ncut 0 accepted\n\
+        let before = "script 0\nstart accepted\n";
+        let lines = "status 0 state 0 busy 0 route 0\ncut 0 accepted\n\
             cut 1 refused 22 1\ndeliver 1 taken 2\nroute accepted\nrun 0 made 0 moving\n\
             deliver 2 taken 1\nrun 0 made 0 rest\nstatus 2 state 2 busy 0 route 2\n\
-            route accepted 1 2\nmend 3 refused 12 3\ncut-is 0\n";
-        let expected = format!("{lines}{}reached 0 1 2\n", states("022"));
+            route accepted 1 2\nmend 3 refused 12 3\n";
+        let expected = both(before, lines, "cut-is 0", "022", "reached 0 1 2");
         assert_eq!(listed(Origin::OwnPlan, calls), expected);
     }
 
     #[test]
     fn lists_a_refused_start() {
         let calls = vec![Call::Run(7), Call::Route, Call::Deliver(0)];
-        let lines = "script 0\nstart refused 13 0\nrun 7 refused 3 0\nroute refused 3 0\n\
-            deliver 0 refused 3 0\ncut none\n";
-        let expected = format!("{lines}{}reached\n", states(""));
+        let before = "script 0\nstart refused 13 0\n";
+        let lines = "run 7 refused 3 0\nroute refused 3 0\ndeliver 0 refused 3 0\n";
+        let expected = both(before, lines, "cut none", "", "reached");
         assert_eq!(listed(Origin::GivenPlan(vec![0, 2]), calls), expected);
     }
 
@@ -153,8 +172,8 @@ mod tests {
             count: 3,
         };
         let origin = Origin::GivenSession(Box::new(given));
-        let lines = "script 0\nstatus 9 refused 13 0\ncut-is 65534\n";
-        let expected = format!("{lines}{}reached 2 63\n", states("04?"));
+        let lines = "status 9 refused 13 0\n";
+        let expected = both("script 0\n", lines, "cut-is 65534", "04?", "reached 2 63");
         assert_eq!(listed(origin, vec![Call::Status(9)]), expected);
     }
 }

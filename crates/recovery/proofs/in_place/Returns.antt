@@ -17,6 +17,7 @@ ofSession = record {
   T = session.the-type;
   laws = session-laws.the-laws;
   plain = session-laws.the-plain;
+  copy = session-laws.the-copy;
   lowers = session-laws.lowers;
 }
 

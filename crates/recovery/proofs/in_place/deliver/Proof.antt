@@ -2,7 +2,8 @@
 use contract.Running.{givenOf, tables, tablesOf}
 use denote.Triple.Spec.{tripleOf}
 use denote.Triple.Table.{entered, cited}
-use Rattle.lent.specs.StoreBack.{ByValue, stores-back}
+use Rattle.lent.specs.Contracts.{ByValue}
+use Rattle.lent.specs.StoreBack.{stores-back}
 use Rattle.recovery.specs.Calls.{afterDelivery}
 use Rattle.recovery.proofs.in_place.Returns.{ofSession, ofDelivery}
 use Rattle.recovery.proofs.Session.deliver.Symbol as by-value
@@ -17,5 +18,5 @@ unfolding code.routine tablesOf
 deliver-spec 𝓤 H 𝓜 𝓖 𝓡 =
     entered 𝓤 H (tripleOf 𝓤 H (𝓖 .A) in-place.signature (in-place.spec 𝓤 H (𝓖 .A) (𝓜 .mem) (𝓡 .run)))
     (tables 𝓤 H 𝓜 𝓡 code.env .C) (tables 𝓤 H 𝓜 𝓡 code.env .Λ) name code.function (code.unfolded 𝓤 H 𝓜 𝓡)
-    (stores-back ofSession ofDelivery by-value.name afterDelivery 𝓤 H (𝓖 .A) (givenOf 𝓤 H 𝓜 𝓖) (𝓜 .mem) (𝓡 .run) (tablesOf 𝓤 H 𝓜 (tables 𝓤 H 𝓜 𝓡 code.env))
-    (cited 𝓤 H (ByValue ofSession ofDelivery afterDelivery 𝓤 H (𝓖 .A) (𝓜 .mem) (𝓡 .run)) 𝓜 𝓡 code.env by-value.name by-value.routine code.calls-recovery·Session·deliver (by-value-met.met 𝓤 H 𝓜 𝓖 𝓡)))
+    (stores-back ofSession ofDelivery by-value.name afterDelivery 𝓤 H (𝓖 .A) (givenOf 𝓤 H 𝓜 𝓖) (tablesOf 𝓤 H 𝓜 (tables 𝓤 H 𝓜 𝓡 code.env))
+    (cited 𝓤 H (ByValue ofSession ofDelivery afterDelivery 𝓤 H (𝓖 .A)) 𝓜 𝓡 code.env by-value.name by-value.routine code.calls-recovery·Session·deliver (by-value-met.met 𝓤 H 𝓜 𝓖 𝓡)))
