@@ -2,6 +2,7 @@
 -- by citing one lemma. README.md leads from each demand to its theorem here.
 use Prim.Native.Nat.{ℕ, _≤_, _<_}
 use mathlib.Core.Path.{_≡_}
+use mathlib.Core.Bool.{true}
 use mathlib.Core.Logic.{_⊎_, _↔_}
 use mathlib.Core.List.{List, _++_, List·Memᴰ}
 use lib.ListN.{length, take, drop}
@@ -29,8 +30,9 @@ use Rattle.recovery.specs.WellFormed.{PlanFormed, Formed}
 use Rattle.recovery.specs.WellFormed as formed
 use Rattle.recovery.specs.Laws.Forming.{start-formed, refused-start, record-formed, refused-record}
 use Rattle.recovery.specs.Calls.{digraph, routeOf}
-use Rattle.recovery.specs.History.{Call}
+use Rattle.recovery.specs.History.{Call, reply, next, refused}
 use Rattle.recovery.specs.Demand.{Demand3, AtRest, OnePath, ended, log}
+use Rattle.recovery.specs.Laws.Refused.{refused-keeps}
 use Rattle.recovery.specs.Laws.Recovered.{demand-3}
 use Rattle.recovery.specs.Laws.Routed.{demand-route}
 use Rattle.guarantees.specs.Bench.{Row, table, Holds}
@@ -117,9 +119,14 @@ record-accepts s r = record-formed s (r .entries)
 pub record-refuses : (s : Session) (number place : ℕ) → recordAnswer s ≡ Refused number place → formed.Refusal (s .mesh) (Formed s) number place
 record-refuses s number place = refused-record s
 
--- ---- demand 3, over every list of calls (contracts: crates/recovery/src/lib.rt, the calls of `Session`)
+-- a refused call leaves the session as it was, by value or in place, whatever the session
+pub refused-unaltered : (c : Call) (s : Session) → refused c (reply c s) ≡ true → next c s ≡ s
+refused-unaltered = refused-keeps
 
--- after any list of calls, refused ones included, from the session that a start on a planned mesh and its plan gives: at most 2 × (L - 1) deliveries
+-- ---- demand 3, over every list of calls (contracts: crates/recovery/src/lib.rt, the calls of `Session`, and crates/recovery/src/in_place.rt, those
+-- of them on a session that the host lends)
+
+-- after any list of calls, by value and in place in any mix and refused ones included, from the session that a start on a planned mesh and its plan gives: at most 2 × (L - 1) deliveries
 -- since the cut that stands, accepted exactly where a link is under way, at rest one simple path from x to y; the session and every answer are those
 -- that 01's rules make of the list alone
 pub demand-three : (m : Mesh) → InRange m → planned m .answer ≡ Accepted → (calls : List Call) → Demand3 m calls

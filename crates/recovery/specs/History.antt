@@ -1,6 +1,6 @@
 -- A list of calls, what each answers, and what the answers say of the cut that stands: the words of demand 3. Definitions only.
 use Prim.Native.Nat.{ℕ, _+_}
-use mathlib.Core.Bool.{Bool, true, false}
+use mathlib.Core.Bool.{Bool, true, false, not}
 use mathlib.Core.List.{List, [], _∷_}
 use Rattle.scan.specs.Total.{bit}
 use Rattle.mesh.specs.declared.Answer.{Answer}
@@ -13,6 +13,7 @@ use Rattle.recovery.specs.declared.Delivered.the-variants as delivered
 use Rattle.recovery.specs.declared.Report.{Report}
 use Rattle.recovery.specs.declared.Report.the-variants as report
 use Rattle.recovery.specs.declared.Status.{Status}
+use Rattle.recovery.specs.declared.Status.the-variants as statuses
 use Rattle.recovery.specs.Calls.{afterCut, afterDelivery, afterRun, afterMend, statusOf}
 
 -- how a call is made: on a session by value, or in place on one that the host lends (01's lent calls)
@@ -47,6 +48,27 @@ next (run n) s = afterRun s n .session
 next (mend w k) s = afterMend s k .session
 next (status k) s = s
 
+-- a delivery was accepted: it answered taken, turned back or released
+abbrev pub accepted : Delivered → Bool
+accepted (delivered.Taken v) = true
+accepted (delivered.TurnedBack v) = true
+accepted (delivered.Released v) = true
+accepted (delivered.Refused number place) = false
+
+-- a call was refused
+abbrev pub isRefusal : Answer → Bool
+isRefusal Accepted = false
+isRefusal (Refused number place) = true
+
+abbrev pub refused : (c : Call) → Reply c → Bool
+refused (cut w k) a = isRefusal a
+refused (deliver w k) d = not (accepted d)
+refused (run n) (report.Made count rest) = false
+refused (run n) (report.Refused number place) = true
+refused (mend w k) a = isRefusal a
+refused (status k) (statuses.Link state underWay route) = false
+refused (status k) (statuses.Refused number place) = true
+
 -- the session after the calls, each on the session as the one before returned or left it
 unfoldable pub after : List Call → Session → Session
 after [] s = s
@@ -61,13 +83,6 @@ answers [] s = []
 answers (c ∷ cs) s = (c, reply c s) ∷ answers cs (next c s)
 
 -- ---- what the answers say
-
--- a delivery was accepted: it answered taken, turned back or released
-abbrev pub accepted : Delivered → Bool
-accepted (delivered.Taken v) = true
-accepted (delivered.TurnedBack v) = true
-accepted (delivered.Released v) = true
-accepted (delivered.Refused number place) = false
 
 -- the cut that stands, and the deliveries accepted since
 pub record Log : Type 0 where

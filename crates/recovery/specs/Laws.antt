@@ -4,6 +4,7 @@ pub mod Calls
 pub mod Forming
 pub mod Kept
 pub mod Recovered
+pub mod Refused
 pub mod Routed
 pub mod Ruled
 pub mod RuledCalls
