@@ -1,8 +1,10 @@
 // The listing of a book: its mesh, its plan and what each cut leads to (01, the program meshplan).
 mod line;
 
+ghost use mathlib.Core.Path.{_≡_};
 ghost use Prim.Native.Nat.{_≤_};
 ghost use lib.ListN.{length};
+ghost use Rattle.listing.specs.Listing.{listAnswer};
 use crate::line::print;
 use crate::line::put_number;
 use crate::line::put_word;
@@ -19,25 +21,28 @@ const UNHINDERED: u32 = 4294967295;
 
 // Prints the listing of a book to standard output. A first line holds N and L. Each link line holds number, ends and
 // direction. Each cut line holds link, x, y, deliveries of an unhindered run, and the route's links from x on. A refusal of
-// reading or planning is the only line: `refused`, number and place.
-pub fn print_book(book: &[u8]) {
+// reading or planning is the only line: `refused`, number and place. Answers that refusal, or accepted.
+pub fn print_book(book: &[u8]) -> Answer
+    ensures { λ r. ⌜ r ≡ listAnswer (now (book .entry)) ⌝ }
+{
     let d = codec::decode(book);
     let a = d.answer;
     let Answer::Accepted = a else {
         print_refusal(a);
-        return;
+        return a;
     };
     let m = d.mesh;
     let p = planner::plan(m);
     let b = p.answer;
     let Answer::Accepted = b else {
         print_refusal(b);
-        return;
+        return b;
     };
     let plan = p.plan;
     print_mesh(m);
     print_links(m, plan);
     print_cuts(m, plan);
+    b
 }
 
 fn print_refusal(a: Answer) {
