@@ -1,4 +1,3 @@
 pub mod Returned
 pub mod Contracts
-pub mod StoreBack
-pub mod LendOut
+pub mod Laws

@@ -3,7 +3,7 @@ use contract.Running.{givenOf, tables, tablesOf}
 use denote.Triple.Spec.{tripleOf}
 use denote.Triple.Table.{entered, cited}
 use Rattle.lent.specs.Contracts.{InPlace}
-use Rattle.lent.specs.LendOut.{lends-out}
+use Rattle.lent.specs.Laws.LendOut.{lends-out}
 use Rattle.recovery.specs.Calls.{afterDelivery}
 use Rattle.recovery.proofs.in_place.deliver.Symbol as in-place
 use Rattle.recovery.proofs.in_place.deliver.Met as in-place-met

@@ -3,7 +3,7 @@ use contract.Running.{givenOf, tables, tablesOf}
 use denote.Triple.Spec.{tripleOf}
 use denote.Triple.Table.{entered, cited}
 use Rattle.lent.specs.Contracts.{ByValue}
-use Rattle.lent.specs.StoreBack.{stores-back}
+use Rattle.lent.specs.Laws.StoreBack.{stores-back}
 use Rattle.recovery.specs.Calls.{afterMend}
 use Rattle.recovery.proofs.in_place.Returns.{ofSession, ofChange}
 use Rattle.recovery.proofs.Session.mend.Symbol as by-value

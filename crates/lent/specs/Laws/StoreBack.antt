@@ -1,6 +1,6 @@
--- A session that is lent for a call with a link number: one walk, over the callee, its definition and what it returns, for every function of
--- this code. The borrow is opened, the session is copied out of it and passed to the callee, what the callee returned is stored in its place,
--- and the borrow is closed at that. No field of the session is looked at.
+-- A state that is lent for a call with a number: one walk, over the callee by value and its definition, for every function of this code. The
+-- borrow is opened, the state is copied out of it and passed to the callee, what the callee returned is stored in its place, and the borrow is
+-- closed at that. No field of the state is looked at.
 use mathlib.Core.Path.{_≡_, refl, ap}
 use Prim.Native.Nat.{ℕ, _<_, _^_}
 use mathlib.Core.List.{[], _∷_, List}

@@ -1,0 +1,2 @@
+pub mod StoreBack
+pub mod LendOut
