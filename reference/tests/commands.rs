@@ -1,24 +1,13 @@
 //! The program's commands as they are run.
 
-use std::io::Write;
-use std::process::{Command, Output, Stdio};
+mod program;
 
 use reference::bench::input;
 
+use program::run;
+
 const P1: [u8; 9] = [1, 3, 3, 0, 0, 2, 2, 1, 1];
 const P5: [u8; 13] = [1, 4, 5, 0, 0, 2, 2, 2, 3, 1, 1, 1, 2];
-
-fn run(arguments: &[&str], input: &[u8]) -> Output {
-    let mut child = Command::new(env!("CARGO_BIN_EXE_reference"))
-        .args(arguments)
-        .stdin(Stdio::piped())
-        .stdout(Stdio::piped())
-        .stderr(Stdio::piped())
-        .spawn()
-        .unwrap();
-    child.stdin.take().unwrap().write_all(input).unwrap();
-    child.wait_with_output().unwrap()
-}
 
 fn assert_prints(job: u8, repeats: u32, book: &[u8], expected: &str) {
     let output = run(&["bench"], &input(job, repeats, book));

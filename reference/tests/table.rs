@@ -1,7 +1,6 @@
 //! The text table and the book of a mesh, each made from the other.
 
-use std::io::Write;
-use std::process::{Command, Output, Stdio};
+mod program;
 
 use reference::book::bytes_of;
 use reference::corpus::meshes::{filled, Fill};
@@ -9,23 +8,13 @@ use reference::corpus::shapes;
 use reference::random::Random;
 use reference::table::{read, text_of};
 
+use program::run;
+
 const P5: [u8; 13] = [1, 4, 5, 0, 0, 2, 2, 2, 3, 1, 1, 1, 2];
 const P5_TABLE: &str = "nodes 4\n0 1 0 0\n0 2 0 0\n0 3 0 0\n1 2 0 0\n2 3 0 0\n";
 
-fn run(command: &str, input: &[u8]) -> Output {
-    let mut child = Command::new(env!("CARGO_BIN_EXE_reference"))
-        .arg(command)
-        .stdin(Stdio::piped())
-        .stdout(Stdio::piped())
-        .stderr(Stdio::piped())
-        .spawn()
-        .unwrap();
-    child.stdin.take().unwrap().write_all(input).unwrap();
-    child.wait_with_output().unwrap()
-}
-
 fn assert_answers(command: &str, input: &[u8], expected: &[u8]) {
-    let output = run(command, input);
+    let output = run(&[command], input);
     assert!(output.status.success());
     assert_eq!(output.stdout, expected);
     assert!(output.stderr.is_empty());
@@ -45,7 +34,7 @@ fn a_comment_can_hold_any_bytes() {
 
 #[test]
 fn a_faulty_table_is_answered_on_stderr_alone() {
-    let output = run("book", b"# p\nnodes 4\n\n0 1\n0 3\n# q\n0 2\n9 9\n");
+    let output = run(&["book"], b"# p\nnodes 4\n\n0 1\n0 3\n# q\n0 2\n9 9\n");
     assert_eq!(output.status.code(), Some(1));
     assert!(output.stdout.is_empty());
     let expected = "line 7: refused 8: pair 0 2 is not after the previous pair 0 3\n";
@@ -59,7 +48,7 @@ fn a_refused_book_is_answered_with_one_line() {
         (&[1, 2, 1, 0, 2, 1], "refused 9 4\n"),
         (&[1, 65, 0, 0], "refused 3 1\n"),
     ] {
-        let output = run("table", book);
+        let output = run(&["table"], book);
         assert_eq!(output.status.code(), Some(1));
         assert_eq!(String::from_utf8(output.stdout).unwrap(), expected);
     }
