@@ -1,8 +1,6 @@
 -- `mesh::check` meets its contract: each return rewrites with the answers that led there.
-use native.Mathlib.Omega.{arith}
-use mathlib.Core.Path.{_≡_, sym, _∙_}
+use mathlib.Core.Path.{sym, _∙_}
 use Prim.Native.Nat.{_≤_}
-use lib.ListN.{length}
 use borrow.Author.Tests.{not-true, not-false, leb-true}
 use Rattle.scan.specs.Part.{length-mapped}
 use Rattle.mesh.specs.Mesh.{meshAnswer}

@@ -9,7 +9,7 @@ use native.Mathlib.Decide.{decLt}
 use lib.Dec.{eqb, ltb}
 use lib.ListN.{length}
 use borrow.Author.Tests.{lt-ltb, le-ltb, ltb-false, ne-eqb, leb-false, lt-leb}
-use Rattle.scan.specs.Test.{branch, clash, Says, le-says, and-says, not-says, fails, failing}
+use Rattle.scan.specs.Test.{branch, clash, Says, le-says, and-says, not-says, nor-says, fails, failing}
 use Rattle.scan.specs.Entry.{at, has}
 use Rattle.scan.specs.Lowest.{any-none, any-fails}
 use Rattle.mesh.specs.declared.Mesh.{Mesh}
@@ -88,11 +88,6 @@ strays-says n reached = (
 
     stray : (v : ℕ) → Says (p v) ((n ≤ v) × (has reached v ≡ true))
     stray v = and-says (le-says n v) (λ e. e, λ e. e)
-
--- neither test passes
-nor-says : (s t : Bool) {A B : Type 0} → Says (not s) A → Says (not t) B → Says (not (s || t)) (A × B)
-nor-says true t f g = (λ e. clash e refl, λ (a, b). f .1 a)
-nor-says false t f g = (λ e. (f .0 refl, g .0 e), λ (a, b). g .1 b)
 
 module _ (m : Mesh) (f : Flood) (few : m .count ≤ 256) where
   flood-parts : Says (not (floodFault m f)) (Bounded (m .count) 4 (f .states) × ((v : ℕ) → v < 64 → has (f .reached) v ≡ true → v < m .nodes))
