@@ -117,16 +117,20 @@ refused-more : (m : Mesh) {F G : Type 0} → (G → F) → (number place : ℕ) 
 refused-more m f number place (of-mesh e) = of-mesh e
 refused-more m f number place (ill-formed e n) = ill-formed e (λ g. n (f g))
 
--- the answer accepts just where the mesh is well formed and F holds
+-- where the mesh is accepted and F holds, the answer accepts
+told-accepts : (m : Mesh) {F : Type 0} {a : Answer} → Told m F a → meshAnswer m ≡ Accepted → F → a ≡ Accepted
+told-accepts m {F} t b f = tells-accepted t never
+  where
+    never : (number place : ℕ) → Refusal m F number place → ⊥
+    never number place (of-mesh e) = refused-accepted (sym e ∙ b)
+    never number place (ill-formed e n) = n f
+
+-- it accepts just where the mesh is well formed and F holds
 told-formed : (m : Mesh) {F : Type 0} {a : Answer} → Told m F a → length (m .links) ≡ 256 → (a ≡ Accepted) ↔ (WellFormed m × F)
 told-formed m {F} {a} t sized = (
   λ e. let (b, f) = told-accepted (subst (Told m F) e t) in (well-formed m sized b, f),
-  λ (w, f). tells-accepted t (never (accepts m sized w) f),
+  λ (w, f). told-accepts m t (accepts m sized w) f,
 )
-  where
-    never : meshAnswer m ≡ Accepted → F → (number place : ℕ) → Refusal m F number place → ⊥
-    never b f number place (of-mesh e) = refused-accepted (sym e ∙ b)
-    never b f number place (ill-formed e n) = n f
 
 module _ (m : Mesh) (p : Plan) where
   start-told : Told m (PlanFormed m p) (startAnswer m p)
@@ -138,6 +142,10 @@ module _ (m : Mesh) (p : Plan) where
   -- a start accepts exactly a well-formed mesh with a well-formed plan
   pub start-formed : length (m .links) ≡ 256 → (startAnswer m p ≡ Accepted) ↔ (WellFormed m × PlanFormed m p)
   start-formed = told-formed m start-told
+
+  -- whatever the length of the mesh's list of links
+  pub start-accepts : meshAnswer m ≡ Accepted → PlanFormed m p → startAnswer m p ≡ Accepted
+  start-accepts = told-accepts m start-told
 
   pub refused-start : {number place : ℕ} → startAnswer m p ≡ Refused number place → Refusal m (PlanFormed m p) number place
   refused-start e = told-refused (subst (Told m (PlanFormed m p)) e start-told)
@@ -170,6 +178,10 @@ module _ (s : Session) where
         λ e. let (w, (p, (c, f))) = says .0 e in record { mesh = w; plan = p; cut = c; flood = f },
         λ F. says .1 (F .mesh, (F .plan, (F .cut, F .flood))),
       )
+
+  pub record-accepts : meshAnswer (s .mesh) ≡ Accepted → PlanFormed (s .mesh) (s .plan) → CutFormed (s .mesh) (s .cut) → FloodFormed (s .mesh) (s .flood)
+      → recordAnswer s ≡ Accepted
+  record-accepts b p c f = told-accepts (s .mesh) record-told b (p, (c, f))
 
   -- it refuses with the mesh's own refusal, or with 13 at 0 where the mesh is accepted and the record is ill-formed
   pub refused-record : {number place : ℕ} → recordAnswer s ≡ Refused number place → Refusal (s .mesh) (Formed s) number place
