@@ -82,6 +82,9 @@ one-not-zero (l ∷ ls) f =
 
 -- ---- the whole
 
+pub nodes-says : (n : ℕ) → Says (nodesFit n) ((2 ≤ n) × (n ≤ 64))
+nodes-says n = and-says (le-says 2 n) (le-says n 64)
+
 -- what holds of an accepted mesh; the checks do not see a link past the end of the list
 pub record Sound (m : Mesh) : Type 0 where
   pub nodes : (2 ≤ m .nodes) × (m .nodes ≤ 64)
@@ -108,7 +111,7 @@ mesh-told m =
     (λ b. tells-andThen (links-told (m .nodes) zeroLink 0 (take (m .count) (m .links)))
     (λ c. branch Told (allZero (drop (m .count) (m .links)))
     (λ d. accepting (record {
-      nodes = nodes .0 a;
+      nodes = nodes-says (m .nodes) .0 a;
       count = leb-true _ _ b;
       faultless = λ i h l. good-taken m i h _ (simp length-take (omega arith)) c;
       zeros = λ i h. let s : m .count + (i - m .count) ≡ i = omega arith in rw (getD-drop, s) at (all-zero (drop (m .count) (m .links)) d (i - m .count));
@@ -116,13 +119,10 @@ mesh-told m =
     (λ d. let (i, z) = one-not-zero (drop (m .count) (m .links)) d in refusing (entry-not-zero (m .count + i) (omega arith) (rw getD-drop at z))))
     fault)
     (λ b. refusing (count-unfit (leb-false _ _ b))))
-    (λ a. refusing (nodes-unfit (fails nodes a)))
+    (λ a. refusing (nodes-unfit (fails (nodes-says (m .nodes)) a)))
   where
     Told : Answer → Type 0
     Told = Tells (Sound m) (Refusal m)
-
-    nodes : Says (nodesFit (m .nodes)) ((2 ≤ m .nodes) × (m .nodes ≤ 64))
-    nodes = and-says (le-says 2 (m .nodes)) (le-says (m .nodes) 64)
 
     fault : (number place : ℕ) → FirstFault (m .nodes) zeroLink 0 (take (m .count) (m .links)) number place → Refusal m number place
     fault number place r =
