@@ -25,7 +25,8 @@ use Rattle.codec.specs.Field.{stands, extent}
 use Rattle.codec.specs.Record.{widths, fieldsOf, fieldAt, recordOf, recordLength, linkOf}
 use Rattle.codec.specs.Book.{version, recordsOf, bookOf, encodeAnswer, encoded, outputAfter, recordsAnswer, linksOf, bookAnswer, meshOf, decoded}
 use Rattle.codec.specs.Laws.Accepted.{GoodRecord, GoodHeader, records-accepted, book-accepted, decoded-mesh}
-use Rattle.mesh.specs.Laws.GoodMesh.{link-anywhere, ends-below, all-zero, GoodMesh, accepted-mesh}
+use Rattle.mesh.specs.Laws.Zeros.{all-zero}
+use Rattle.mesh.specs.Laws.GoodMesh.{link-anywhere, ends-below, GoodMesh, accepted-mesh}
 use Rattle.codec.specs.Laws.Fields.{AsRead, fields-read}
 use Rattle.codec.specs.Laws.Written.{decoded-book, book-most}
 

@@ -19,7 +19,8 @@ use Rattle.codec.specs.Field.{bitMap}
 use Rattle.codec.specs.Record.{fieldsOf, fieldAt, recordOf, recordLength, linkOf, recordAnswer}
 use Rattle.codec.specs.Book.{encodedAs, recordsOf, bookOf, encodeAnswer, encoded, outputAfter}
 use Rattle.codec.specs.Book.{recordsAnswer, linksOf, headerAnswer, bookAnswer, meshOf, decoded}
-use Rattle.mesh.specs.Laws.GoodMesh.{link-anywhere, zero-links, GoodMesh, mesh-accepted}
+use Rattle.mesh.specs.Laws.Zeros.{zero-links}
+use Rattle.mesh.specs.Laws.GoodMesh.{link-anywhere, GoodMesh, mesh-accepted}
 use Rattle.codec.specs.Laws.Fields.{Fits, AsRead, fields-written, none-needless, recordLength-most, map-unreserved, length-record}
 
 -- ---- one record

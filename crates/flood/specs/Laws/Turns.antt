@@ -1,12 +1,12 @@
 -- The loop of a run that may make a deliveries from f₀: before it, one turn, and its two ends. It stands at f with m deliveries made. Assumes nothing.
 use Prim.Native.Nat.{ℕ, suc, _+_, _-_, _<_, _≤_}
 use mathlib.Core.Path.{_≡_, sym, ap, _∙_}
-use mathlib.Core.Bool.{Bool, true, false, not}
+use mathlib.Core.Bool.{Bool, true, false}
 use mathlib.Core.List.{List}
 use native.Mathlib.Omega.{arith}
-use native.Mathlib.Decide.{decLt}
-use lib.Dec.{leb, ltb}
-use borrow.Author.Tests.{lt-ltb, le-ltb, le-leb, lt-leb}
+use lib.Dec.{leb}
+use borrow.Author.Tests.{le-leb, lt-leb}
+use Rattle.scan.specs.Test.{leb-not}
 use Rattle.scan.specs.Lowest.{any, lowest, lowest-is, None}
 use Rattle.flood.specs.declared.Ran as declared
 use Rattle.flood.specs.Digraph.{Digraph, Failure}
@@ -24,9 +24,6 @@ more m r = record { flood = r .flood; made = m + r .made }
 
 made-is : (f : Flood) (m n : ℕ) → m ≡ n → _≡_ {A = Ran} (record { flood = f; made = m }) (record { flood = f; made = n })
 made-is f m n e = ap (λ (k : ℕ). record { flood = f; made = k }) e
-
-leb-not : (a b : ℕ) → leb a b ≡ not (ltb b a)
-leb-not a b = elim (decLt b a) [ yes h ↦ rw (lt-leb a b h, lt-ltb b a h) | no h ↦ rw (le-leb a b (omega arith), le-ltb b a (omega arith)) ]
 
 module _ (g : Digraph) (c : Failure) (a : ℕ) (f₀ : Flood) where
   -- what is left of the run

@@ -1,15 +1,15 @@
 -- The record test accepts exactly the well-formed records, and refuses with the mesh's own refusal or with 13 at 0. Assumes nothing.
-use Prim.Native.Nat.{ℕ, zero, suc, _<_, _≤_}
+use Prim.Native.Nat.{ℕ, _<_, _≤_}
 use mathlib.Core.Path.{_≡_, refl, sym, subst, _∙_}
 use mathlib.Core.Logic.{_↔_}
 use mathlib.Core.Bool.{Bool, true, false, not, _||_}
 use mathlib.Core.List.{List}
 use native.Mathlib.Omega.{arith}
 use native.Mathlib.Decide.{decLt}
-use lib.Dec.{eqb, ltb}
+use lib.Dec.{eqb}
 use lib.ListN.{length}
-use borrow.Author.Tests.{lt-ltb, le-ltb, ltb-false, ne-eqb, leb-false, lt-leb}
-use Rattle.scan.specs.Test.{branch, clash, Says, le-says, and-says, not-says, nor-says, fails, failing}
+use borrow.Author.Tests.{lt-ltb, le-ltb, ltb-false, leb-false, lt-leb}
+use Rattle.scan.specs.Test.{branch, clash, Says, le-says, and-says, not-says, nor-says, ltb-zero, fails, failing}
 use Rattle.scan.specs.Entry.{at, has}
 use Rattle.scan.specs.Lowest.{any-none, any-fails}
 use Rattle.mesh.specs.declared.Mesh.{Mesh}
@@ -29,10 +29,6 @@ use Rattle.recovery.specs.WellFormed.{Bounded, PlanFormed, CutFormed, Fl
 
 -- ---- one entry
 
-positive : (v : ℕ) → ltb 0 v ≡ not (eqb v 0)
-positive zero = refl
-positive (suc v) = lt-ltb 0 (suc v) (omega arith) ∙ sym (rw (ne-eqb (suc v) 0 (λ e. omega arith)))
-
 module _ (links top i v : ℕ) where
   pub over-above : i < links → top < v → isOver links top i v ≡ true
   unfolding isOver
@@ -44,7 +40,7 @@ module _ (links top i v : ℕ) where
 
   pub over-past : links ≤ i → isOver links top i v ≡ not (eqb v 0)
   unfolding isOver
-  over-past h = rw (le-ltb i links h) (positive v)
+  over-past h = rw (le-ltb i links h) (ltb-zero v)
 
 -- ---- each part of the record
 
