@@ -3,8 +3,6 @@ use crate::Decoded;
 use crate::number::number_at;
 use crate::record_reader::read_record;
 use mesh::Answer;
-use mesh::Link;
-use mesh::Mesh;
 use mesh::zero_link;
 use mesh::zero_mesh;
 ghost use mathlib.Core.Path.{_≡_};

@@ -3,7 +3,6 @@ use crate::header::VERSION;
 use crate::number::put_bytes;
 use crate::record_writer::length_of;
 use crate::record_writer::put_record;
-use mesh::Link;
 use mesh::Mesh;
 use mesh::zero_link;
 ghost use mathlib.Core.Path.{_≡_};

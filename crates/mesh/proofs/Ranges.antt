@@ -1,17 +1,14 @@
 -- What owning a mesh tells of its fields: they are in the ranges of their types. Serves the proof of `check`. Assumes nothing.
 use Prim.Native.Nat.{ℕ, zero, suc}
-use mathlib.Core.Path.{_≡_}
 use mathlib.Core.List.{List, [], _∷_, map}
 use lib.Dec.{lit<}
 use lib.ListN.{length, getD}
 use mir.Val.{Val}
 use denote.Shadow.{shadow}
 use denote.Array.{each}
-use Rattle.scan.specs.Part.{length-mapped}
 use Rattle.mesh.specs.declared.Link.{Link}
-use Rattle.mesh.specs.declared.Mesh.{Mesh}
 use Rattle.mesh.specs.Mesh.{zeroLink}
-use Rattle.mesh.specs.WellFormed.{LinkInRange, InRange}
+use Rattle.mesh.specs.WellFormed.{LinkInRange}
 use Rattle.mesh.proofs.Link.{the-field}
 
 pub each-in-range : (ls : List Link) (us : List Val)

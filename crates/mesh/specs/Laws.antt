@@ -1,6 +1,7 @@
 pub mod Answer
 pub mod Links
 pub mod Ends
+pub mod Zeros
 pub mod Refused
 pub mod Checked
 pub mod GoodMesh

@@ -15,7 +15,7 @@ use Rattle.scan.specs.Total.{count, count-tight}
 pub set-only : (l : List Bool) (j i : ℕ) → has (set l j true) i ≡ true → (i ≡ j) ⊎ (has l i ≡ true)
 set-only l j i h = elim (ℕ-discrete i j) [ yes e ↦ inl e | no n ↦ inr (sym (getD-set-other l j i true false n) ∙ h) ]
 
--- no flag falls
+-- a flag that stood still stands
 pub set-keeps : (l : List Bool) (j i : ℕ) → has l i ≡ true → has (set l j true) i ≡ true
 set-keeps l j i h = elim (ℕ-discrete i j) [
   | yes e ↦ let q : set l j true ≡ l = cc (set-getD l i false) in rw q h

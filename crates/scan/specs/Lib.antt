@@ -1,6 +1,7 @@
 pub mod Test
 pub mod Entry
 pub mod Lowest
+pub mod Rising
 pub mod Total
 pub mod Distinct
 pub mod Flags

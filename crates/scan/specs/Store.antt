@@ -1,10 +1,10 @@
 -- Runs of stores in a list: `sets l i vs` has the elements of vs from index i on. Assumes nothing.
-use Prim.Native.Nat.{ℕ, suc, _+_, _-_, _≤_}
+use Prim.Native.Nat.{ℕ, zero, suc, _+_, _-_, _≤_}
 use mathlib.Core.Path.{_≡_, sym, _∙_, ap}
 use mathlib.Core.List.{List, [], _∷_, _++_, append-assoc, append-nil}
 use native.Mathlib.Nat.{add-zero, zero-add, add-suc, suc-add}
 use native.Mathlib.Omega.{arith}
-use lib.ListN.{length, take, drop, set, length-drop, drop-of-length-le}
+use lib.ListN.{length, take, drop, set, replicate, length-replicate, length-drop, drop-of-length-le}
 use lib.Seq.{sets, sets-eq, drop-drop}
 use Rattle.scan.specs.Part.{part-rest}
 
@@ -16,6 +16,15 @@ sets-append l i (x ∷ xs) ys = sets-append (set l i x) (suc i) xs ys ∙ rw (ad
 -- a run at the front
 pub sets-front : {A : Type 0} (vs l : List A) → length vs ≤ length l → sets l 0 vs ≡ vs ++ drop (length vs) l
 sets-front vs l h = sets-eq vs l 0 (rw zero-add h) ∙ ap (λ (k : ℕ). vs ++ drop k l) (zero-add (length vs))
+
+drop-replicate : {A : Type 0} (k n : ℕ) (a : A) → drop k (replicate n a) ≡ replicate (n - k) a
+drop-replicate zero n a = let e : n - 0 ≡ n = omega arith in rw e
+drop-replicate (suc k) zero a = let e : 0 - suc k ≡ 0 = omega arith in rw e
+drop-replicate (suc k) (suc n) a = let e : suc n - suc k ≡ n - k = omega arith in rw e (drop-replicate k n a)
+
+-- in an array of equal entries
+pub sets-replicate : {A : Type 0} (n : ℕ) (a : A) (vs : List A) → length vs ≤ n → sets (replicate n a) 0 vs ≡ vs ++ replicate (n - length vs) a
+sets-replicate n a vs h = sets-front vs (replicate n a) (rw length-replicate h) ∙ ap (λ (l : List _). vs ++ l) (drop-replicate (length vs) n a)
 
 -- the lent tail &mut l[at..] with a run at its front, back in its place
 pub sets-lent : {A : Type 0} (l : List A) (at : ℕ) (vs : List A) → at + length vs ≤ length l

@@ -8,13 +8,12 @@ use lib.Dec.{ltb, leb}
 use lib.ListN.{length, getD, drop}
 use Rattle.scan.specs.Bytes.{number}
 use Rattle.mesh.specs.declared.Link.{Link}
-use Rattle.mesh.specs.declared.Answer.{Answer}
 use Rattle.mesh.specs.declared.Answer.the-variants.{Accepted, Refused}
 use Rattle.mesh.specs.Mesh.{linkAnswer, nodesFit, countFits, zeroLink}
 use Rattle.mesh.specs.Laws.Answer.{must-accepted, andThen-accepted}
 use Rattle.codec.specs.Field.{needless}
 use Rattle.codec.specs.Record.{fieldsOf, reserved, recordLength, linkOf, recordAnswer}
-use Rattle.codec.specs.Book.{knownVersion, headerAnswer, recordsAnswer, bookAnswer, meshOf, decodedAs, decoded}
+use Rattle.codec.specs.Book.{decodedAs, knownVersion, headerAnswer, recordsAnswer, bookAnswer, meshOf, decoded}
 
 -- the record at the front of s, after the link p, meets no refusal
 pub record GoodRecord (n : ℕ) (p : Link) (at : ℕ) (s : List ℕ) : Type 0 where
@@ -68,11 +67,7 @@ book-accepted s e = let (header, rest) = andThen-accepted (headerAnswer s) _ e i
 
 pub decoded-answer : (s : List ℕ) → decoded s .answer ≡ bookAnswer s
 unfolding decoded
-decoded-answer s = go (bookAnswer s)
-  where
-    go : (a : Answer) → decodedAs a (meshOf s) .answer ≡ a
-    go Accepted = refl
-    go (Refused number place) = refl
+decoded-answer s = elim (bookAnswer s) as (λ a. decodedAs a (meshOf s) .answer ≡ a) [ Accepted ↦ refl | Refused refusal place ↦ refl ]
 
 -- an accepted book is read, and its mesh is given
 pub decoded-mesh : (s : List ℕ) → decoded s .answer ≡ Accepted

@@ -1,16 +1,17 @@
 -- Any list of fields: what was written is read, and what was read is written, by induction over the list. Also the length of a record. Assumes nothing.
-use Prim.Native.Nat.{ℕ, zero, suc, _+_, _*_, _/_, _%_, _^_, _≤_, _<_}
+use Prim.Native.Nat.{ℕ, zero, suc, _+_, _*_, _/_, _^_, _≤_, _<_}
 use mathlib.Core.Path.{_≡_, refl, sym, _∙_, ap}
 use mathlib.Core.List.{List, [], _∷_, _++_, map, append-assoc}
 use mathlib.Core.Bool.{Bool, true, false, cond, not, _&&_, _||_}
 use native.Mathlib.Nat.{add-zero, add-assoc, pow-suc}
 use native.Mathlib.Omega.{arith}
-use borrow.Author.Tests.{eqb-true, eqb-false, eq-eqb, ne-eqb, lt-leb, not-false}
+use borrow.Author.Tests.{eqb-true, eq-eqb, lt-leb, not-false}
 use lib.Dec.{eqb}
 use lib.ListN.{length, getD, take, drop, length-append}
 use lib.Seq.{drop-drop, drop-append-seam, take-add}
 use Rattle.scan.specs.Bytes.{bytes, number, AreBytes, length-bytes, number-bytes, bytes-number}
 use Rattle.scan.specs.Total.{bit}
+use Rattle.scan.specs.Bits.{lowest-digit, by-lowest}
 use Rattle.scan.specs.Test.{branch, or-false}
 use Rattle.mesh.specs.declared.Link.{Link}
 use Rattle.codec.specs.Field.{Field, differs, fieldBytes, fieldsBytes, bitMap, odd, stands, extent, needless}
@@ -19,19 +20,14 @@ use Rattle.codec.specs.Record.{field, widths, fieldsOf, recordOf, reserv
 -- ---- bits
 
 odd-bit : (t : Bool) (n : ℕ) → odd (bit t + 2 * n) ≡ t
-odd-bit true n = eq-eqb ((1 + 2 * n) % 2) 1 (omega arith)
-odd-bit false n = ne-eqb ((0 + 2 * n) % 2) 1 (λ e. omega arith)
+odd-bit t n = by-lowest (bit t + 2 * n) n t (omega arith) .0
 
 half-bit : (t : Bool) (n : ℕ) → (bit t + 2 * n) / 2 ≡ n
-half-bit true n = omega arith
-half-bit false n = omega arith
+half-bit t n = by-lowest (bit t + 2 * n) n t (omega arith) .1
 
 -- a number by its lowest bit and the others
 bit-half : (b : ℕ) → bit (odd b) + 2 * (b / 2) ≡ b
-bit-half b =
-    branch (λ (v : ℕ). v + 2 * (b / 2) ≡ b) (odd b)
-    (λ e. let o : b % 2 ≡ 1 = eqb-true _ 1 e in omega arith)
-    (λ e. let o : b % 2 ≡ 1 → ⊥ = eqb-false _ 1 e in omega arith)
+bit-half b = omega (arith, lowest-digit b)
 
 -- ---- lengths
 

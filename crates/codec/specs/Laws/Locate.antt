@@ -1,6 +1,6 @@
 -- Where records start in an accepted book. Serves the proofs of `record_start` and `find_record`. Assumes nothing.
 use Prim.Native.Nat.{ℕ, zero, suc, _+_, _-_, _≤_, _<_}
-use mathlib.Core.Path.{_≡_, refl, sym, _∙_, ap}
+use mathlib.Core.Path.{_≡_, refl}
 use mathlib.Core.List.{List}
 use native.Mathlib.Numerals.{add-one}
 use native.Mathlib.Omega.{arith}
@@ -11,13 +11,12 @@ use lib.Seq.{drop-drop}
 use Rattle.scan.specs.Part.{front}
 use Rattle.scan.specs.Bytes.{number}
 use Rattle.mesh.specs.declared.Link.{Link}
-use Rattle.mesh.specs.declared.Answer.{Answer}
 use Rattle.mesh.specs.declared.Answer.the-variants.{Accepted, Refused}
 use Rattle.mesh.specs.Mesh.{zeroLink}
 use Rattle.mesh.specs.Laws.Answer.{must-accepted, andThen-accepted}
 use Rattle.codec.specs.declared.Span.{Span}
 use Rattle.codec.specs.Record.{recordLength, linkOf}
-use Rattle.codec.specs.Book.{recordsAnswer, bookAnswer, meshOf, decoded, recordStart, spanAnswer, spanAs, spanOf}
+use Rattle.codec.specs.Book.{spanAs, recordsAnswer, bookAnswer, meshOf, decoded, recordStart, spanAnswer, spanOf}
 use Rattle.codec.specs.Laws.Accepted.{GoodRecord, records-accepted, book-accepted, decoded-mesh}
 use Rattle.codec.specs.Laws.Reading.{left-next}
 
@@ -119,8 +118,4 @@ module _ (s : List ℕ) (k : ℕ) where
   -- the answer of a span
   pub span-answer : spanOf s k .answer ≡ spanAnswer s k
   unfolding spanOf
-  span-answer = span-as (spanAnswer s k)
-    where
-      span-as : (a : Answer) → spanAs a (recordStart s k) (recordLength (getD s (recordStart s k) 0)) .answer ≡ a
-      span-as Accepted = refl
-      span-as (Refused number place) = refl
+  span-answer = elim (spanAnswer s k) as (λ a. spanAs a (recordStart s k) (recordLength (getD s (recordStart s k) 0)) .answer ≡ a) [ Accepted ↦ refl | Refused refusal place ↦ refl ]

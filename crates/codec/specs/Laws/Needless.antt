@@ -5,12 +5,11 @@ use mathlib.Core.Path.{_≡_, refl, sym, ap, _∙_}
 use mathlib.Core.Bool.{Bool, true, false, not, _&&_, _||_, Bool·not-not}
 use mathlib.Core.List.{List, [], _∷_}
 use native.Mathlib.Nat.{pow-suc}
-use native.Mathlib.Decide.{ℕ-discrete}
 use native.Mathlib.Omega.{arith}
 use lib.Dec.{eqb}
 use lib.ListN.{length, getD}
 use borrow.Author.Tests.{eqb-true, eqb-false, eq-eqb, ne-eqb, leb-false}
-use Rattle.scan.specs.Test.{clash}
+use Rattle.scan.specs.Test.{clash, eq-says, says-same}
 use Rattle.scan.specs.Total.{bit}
 use Rattle.mesh.specs.declared.Link.{Link}
 use Rattle.codec.specs.Field.{Field, differs, bitMap, odd, stands, needless}
@@ -23,8 +22,7 @@ AbsentElsewhere b (f ∷ fs) = (odd b ≡ false → differs f ≡ false) × Abse
 
 -- two tests of equality that say the same
 same-eqb : (a b c d : ℕ) → (a ≡ b → c ≡ d) → (c ≡ d → a ≡ b) → eqb a b ≡ eqb c d
-same-eqb a b c d f g =
-    elim (ℕ-discrete a b) [ yes q ↦ eq-eqb a b q ∙ sym (eq-eqb c d (f q)) | no q ↦ ne-eqb a b q ∙ sym (ne-eqb c d (λ e. q (g e))) ]
+same-eqb a b c d f g = says-same (eq-says a b) (λ e. g (eq-says c d .0 e), λ q. eq-says c d .1 (f q))
 
 -- one field in front: o says whether its bit stands, t whether it differs from its absent value
 needless-step : (b m : ℕ) (o t : Bool) → odd b ≡ o → (o ≡ false → t ≡ false)

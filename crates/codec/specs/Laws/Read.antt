@@ -12,19 +12,21 @@ use lib.ListN.{length, getD, take, drop, replicate, length-append, length-replic
 use lib.Seq.{drop-drop, drop-cons, take-add, take-suc, take-all, take-at, drop-at}
 use Rattle.scan.specs.Bytes.{bytes, number, AreBytes, number-below, bytes-number, bytes-drop}
 use Rattle.scan.specs.Entry.{replicate-at}
-use Rattle.scan.specs.Test.{branch, le-says, and-says}
+use Rattle.scan.specs.Test.{branch}
 use Rattle.mesh.specs.declared.Link.{Link}
 use Rattle.mesh.specs.declared.Mesh.{Mesh}
 use Rattle.mesh.specs.declared.Answer.the-variants.{Accepted}
 use Rattle.mesh.specs.Mesh.{zeroLink, linksAnswer, meshAnswer}
 use Rattle.mesh.specs.WellFormed.{LinkInRange, InRange}
 use Rattle.mesh.specs.Laws.Answer.{must-accepted}
+use Rattle.mesh.specs.Laws.Refused.{nodes-says}
 use Rattle.codec.specs.declared.Decoded.{Decoded}
 use Rattle.codec.specs.Field.{stands, extent}
 use Rattle.codec.specs.Record.{widths, fieldsOf, fieldAt, recordOf, recordLength, linkOf}
 use Rattle.codec.specs.Book.{version, recordsOf, bookOf, encodeAnswer, encoded, outputAfter, recordsAnswer, linksOf, bookAnswer, meshOf, decoded}
 use Rattle.codec.specs.Laws.Accepted.{GoodRecord, GoodHeader, records-accepted, book-accepted, decoded-mesh}
-use Rattle.mesh.specs.Laws.GoodMesh.{link-anywhere, ends-below, all-zero, GoodMesh, accepted-mesh}
+use Rattle.mesh.specs.Laws.Zeros.{all-zero}
+use Rattle.mesh.specs.Laws.GoodMesh.{link-anywhere, ends-below, GoodMesh, accepted-mesh}
 use Rattle.codec.specs.Laws.Fields.{AsRead, fields-read}
 use Rattle.codec.specs.Laws.Written.{decoded-book, book-most}
 
@@ -129,7 +131,7 @@ module _ (s : List ℕ) (e : bookAnswer s ≡ Accepted) where
   count-most = leb-true k 256 (header .count)
 
   nodes-most : getD s 1 0 ≤ 64
-  nodes-most = and-says (le-says 2 (getD s 1 0)) (le-says (getD s 1 0) 64) .0 (header .nodes) .1
+  nodes-most = nodes-says (getD s 1 0) .0 (header .nodes) .1
 
   first-links : take k (links ++ replicate (256 - k) zeroLink) ≡ links
   first-links = take-at links (replicate (256 - k) zeroLink) k (length-links zeroLink k (drop 4 s))

@@ -1,14 +1,12 @@
 -- What the reader's loop keeps, and what each of its turns and ways out makes of it. Serves the proofs of `read_records` and `decode`.
 -- Assumes nothing.
-use Prim.Native.Nat.{ℕ, zero, suc, _+_, _-_, _≤_, _<_}
+use Prim.Native.Nat.{ℕ, suc, _+_, _-_, _≤_, _<_}
 use mathlib.Core.Path.{_≡_, refl, sym, _∙_, ap}
-use mathlib.Core.Bool.{_&&_, and-eq-true-iff}
 use mathlib.Core.List.{List, [], _∷_, _++_, append-assoc, append-nil}
 use native.Mathlib.Numerals.{add-one}
 use native.Mathlib.Omega.{arith}
-use borrow.Author.Tests.{leb-true, le-leb, eq-eqb, ne-eqb}
-use lib.Dec.{leb}
-use lib.ListN.{length, getD, take, drop, set, replicate, take-append-drop, length-set, length-drop, drop-of-length-le}
+use borrow.Author.Tests.{eq-eqb, ne-eqb}
+use lib.ListN.{length, getD, take, drop, set, replicate, take-append-drop, length-set, length-drop}
 use lib.Seq.{take-suc-set, drop-set-lt, drop-drop}
 use Rattle.scan.specs.Bytes.{number}
 use Rattle.mesh.specs.declared.Link.{Link}
@@ -18,8 +16,8 @@ use Rattle.mesh.specs.declared.Answer.the-variants.{Accepted, Refused}
 use Rattle.mesh.specs.Mesh.{zeroLink, zeroMesh}
 use Rattle.codec.specs.declared.Decoded.{Decoded}
 use Rattle.codec.specs.Record.{recordLength, linkOf, recordAnswer}
-use Rattle.codec.specs.Book.{headerAnswer, recordsAnswer, linksOf, bookAnswer, meshOf, decodedAs, decoded}
-use Rattle.codec.specs.Laws.Accepted.{GoodRecord, record-accepted}
+use Rattle.codec.specs.Book.{headerAnswer, recordsAnswer, linksOf, bookAnswer, meshOf, decoded}
+use Rattle.codec.specs.Laws.Accepted.{record-accepted}
 
 -- a turn's record is left, or none
 pub left-next : (k i : ℕ) → i < k → k - i ≡ suc (k - (i + 1))

@@ -1,5 +1,5 @@
 -- What was written is read: a record, the records of links that pass the checks, and the book of a mesh that passes them. Assumes nothing.
-use Prim.Native.Nat.{ℕ, zero, suc, _+_, _-_, _*_, _≤_, _<_}
+use Prim.Native.Nat.{ℕ, zero, suc, _+_, _-_, _*_, _≤_}
 use mathlib.Core.Path.{_≡_, refl, sym, _∙_, ap}
 use mathlib.Core.List.{List, [], _∷_, _++_}
 use native.Mathlib.Omega.{arith}
@@ -10,7 +10,6 @@ use Rattle.scan.specs.Part.{each-taken}
 use Rattle.scan.specs.Bytes.{number, number-bytes}
 use Rattle.mesh.specs.declared.Link.{Link}
 use Rattle.mesh.specs.declared.Mesh.{Mesh}
-use Rattle.mesh.specs.declared.Answer.{Answer}
 use Rattle.mesh.specs.declared.Answer.the-variants.{Accepted, Refused}
 use Rattle.mesh.specs.Mesh.{zeroLink, linkAnswer, linksAnswer, meshAnswer}
 use Rattle.mesh.specs.WellFormed.{LinkInRange, InRange}
@@ -18,9 +17,10 @@ use Rattle.mesh.specs.Laws.Answer.{andThen-accepted}
 use Rattle.mesh.specs.Laws.Checked.{passes}
 use Rattle.codec.specs.Field.{bitMap}
 use Rattle.codec.specs.Record.{fieldsOf, fieldAt, recordOf, recordLength, linkOf, recordAnswer}
-use Rattle.codec.specs.Book.{recordsOf, bookOf, encodeAnswer, encodedAs, encoded, outputAfter}
+use Rattle.codec.specs.Book.{encodedAs, recordsOf, bookOf, encodeAnswer, encoded, outputAfter}
 use Rattle.codec.specs.Book.{recordsAnswer, linksOf, headerAnswer, bookAnswer, meshOf, decoded}
-use Rattle.mesh.specs.Laws.GoodMesh.{link-anywhere, zero-links, GoodMesh, mesh-accepted}
+use Rattle.mesh.specs.Laws.Zeros.{zero-links}
+use Rattle.mesh.specs.Laws.GoodMesh.{link-anywhere, GoodMesh, mesh-accepted}
 use Rattle.codec.specs.Laws.Fields.{Fits, AsRead, fields-written, none-needless, recordLength-most, map-unreserved, length-record}
 
 -- ---- one record
@@ -117,11 +117,7 @@ decoded-book m r e = let g = mesh-accepted m e in rw (book-written m r g, mesh-w
 
 pub encoded-answer : (m : Mesh) (room : ℕ) → encoded m room .answer ≡ encodeAnswer m room
 unfolding encoded
-encoded-answer m room = go (encodeAnswer m room)
-  where
-    go : (a : Answer) → encodedAs a (length (bookOf m)) .answer ≡ a
-    go Accepted = refl
-    go (Refused number place) = refl
+encoded-answer m room = elim (encodeAnswer m room) as (λ a. encodedAs a (length (bookOf m)) .answer ≡ a) [ Accepted ↦ refl | Refused refusal place ↦ refl ]
 
 -- the bytes that writing leaves at the front of the output are read
 pub decoded-output : (m : Mesh) (out : List ℕ) → InRange m → encoded m (length out) .answer ≡ Accepted

@@ -2,38 +2,20 @@
 -- Assumes nothing.
 use Prim.Native.Nat.{ℕ, zero, suc, _+_, _-_, _<_, _≤_}
 use mathlib.Core.Path.{_≡_, refl, ap, _∙_}
-use mathlib.Core.Bool.{Bool, true, false, cond}
 use mathlib.Core.List.{List, [], _∷_, _++_}
 use native.Mathlib.Omega.{arith}
-use lib.ListN.{length, set, drop, replicate, length-replicate}
-use lib.Seq.{sets}
+use lib.ListN.{length, set, replicate, length-replicate}
 use borrow.Author.Tests.{lt-ltb, le-ltb}
+use Rattle.scan.specs.Test.{branch}
 use Rattle.scan.specs.Entry.{at}
 use Rattle.scan.specs.Lowest.{any, lowest}
-use Rattle.scan.specs.Store.{sets-front}
+use Rattle.scan.specs.Store.{sets-replicate}
 use Rattle.scan.specs.Storing.{Storing, storing-all, storing-next, storing-end}
 use Rattle.flood.specs.declared.Route.{Route}
 use Rattle.flood.specs.Digraph.{Digraph}
 use Rattle.flood.specs.Machine.{first, some}
 use Rattle.flood.specs.Topology.{carries, routeFrom}
 use Rattle.flood.specs.Lent.{graph, taken, followed}
-
--- ---- an array of zeros
-
-drop-replicate : {A : Type 0} (k n : ℕ) (a : A) → drop k (replicate n a) ≡ replicate (n - k) a
-drop-replicate zero n a = let e : n - 0 ≡ n = omega arith in rw e
-drop-replicate (suc k) zero a = let e : 0 - suc k ≡ 0 = omega arith in rw e
-drop-replicate (suc k) (suc n) a = let e : suc n - suc k ≡ n - k = omega arith in rw e (drop-replicate k n a)
-
--- with a list stored at its front
-sets-replicate : (n : ℕ) (p : List ℕ) → length p ≤ n → sets (replicate n 0) 0 p ≡ p ++ replicate (n - length p) 0
-sets-replicate n p h = sets-front p (replicate n 0) (rw length-replicate h) ∙ ap (λ (l : List ℕ). p ++ l) (drop-replicate (length p) n 0)
-
--- ---- the loop
-
-cond-length : (t : Bool) (i : ℕ) (p : List ℕ) (m : ℕ) → length p ≤ m → length (cond t (i ∷ p) []) ≤ suc m
-cond-length true i p m h = omega arith
-cond-length false i p m h = omega arith
 
 module _ (nodes : ℕ) (T H : List ℕ) (links : ℕ) (states : List ℕ) where
   abbrev g : Digraph
@@ -43,7 +25,9 @@ module _ (nodes : ℕ) (T H : List ℕ) (links : ℕ) (states : List ℕ) where
   from-length : (m u : ℕ) → length (routeFrom g m u states) ≤ m
   unfolding routeFrom
   from-length zero u = omega arith
-  from-length (suc m) u = let i = first g (carries g u) states in cond-length (some g (carries g u) states) i _ m (from-length m (at H i))
+  from-length (suc m) u =
+      let i = first g (carries g u) states in
+      branch (λ (p : List ℕ). length p ≤ suc m) (some g (carries g u) states) (λ t. omega (arith, from-length m (at H i))) (λ t. omega arith)
 
   module _ (u i : ℕ) (e : i ≡ lowest (taken T states u) links) where
     from-next : (m : ℕ) → i < links → routeFrom g (suc m) u states ≡ i ∷ routeFrom g m (at H i) states
@@ -78,7 +62,7 @@ module _ (nodes : ℕ) (T H : List ℕ) (links : ℕ) (states : List ℕ) where
       done : links ≤ 256 → routeFrom g (links - n) u states ≡ [] → _≡_ {A = Route} (record { links = row; length = n }) (followed g u₀ states)
       done h e =
           let w : row ≡ routeFrom g links u₀ states ++ replicate (256 - length (routeFrom g links u₀ states)) 0
-          = storing-end (f .stored) e ∙ sets-replicate 256 (routeFrom g links u₀ states) (omega (arith, from-length links u₀)) in
+          = storing-end (f .stored) e ∙ sets-replicate 256 0 (routeFrom g links u₀ states) (omega (arith, from-length links u₀)) in
           let z : n ≡ length (routeFrom g links u₀ states) = omega (arith, f .stored .ends, ap length e) in
           λ j. record { links = w j; length = z j }
 

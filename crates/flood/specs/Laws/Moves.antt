@@ -12,12 +12,11 @@ use lib.Seq.{getD-set-other}
 use borrow.Author.Tests.{lt-ltb, le-ltb, eq-eqb, ne-eqb}
 use Rattle.scan.specs.Test.{known}
 use Rattle.scan.specs.Entry.{at, has}
-use Rattle.scan.specs.Lowest.{any, lowest, any-fails, None}
+use Rattle.scan.specs.Lowest.{any, lowest, any-fails, any-same, None}
 use Rattle.scan.specs.Sweep.{sweepTo, sweep-is, length-sweep, at-sweep}
 use Rattle.flood.specs.Digraph.{Digraph, Failure}
 use Rattle.flood.specs.Machine.{Flood, underWay, offer, holds, feeds, first, some, accepts, leaves, opens, arrive, retreat, withdraw, step, begin}
 use Rattle.flood.specs.Lent.{graph, failure, flood, held, taken, busy, leaving, opening, Moved}
-use Rattle.flood.specs.Laws.Loops.{any-same}
 
 -- ---- offers
 

@@ -7,8 +7,8 @@ use mathlib.Core.List.{List}
 use native.Mathlib.Omega.{arith}
 use native.Mathlib.Decide.{decLt}
 use lib.ListN.{length, List·getD-eq-default}
-use Rattle.scan.specs.Test.{branch, Says, lt-says, eq-says, not-says, and-says, or-says, fails, failing, denies}
-use Rattle.scan.specs.Total.{count-zero}
+use Rattle.scan.specs.Test.{branch, Says, lt-says, eq-says, not-says, and-says, or-says, denies}
+use Rattle.scan.specs.Total.{count-any}
 use Rattle.scan.specs.Entry.{at}
 use Rattle.scan.specs.Lowest.{lowest, any, any-says, lowest-is}
 use Rattle.scan.specs.Sweep.{length-sweep, at-sweep}
@@ -104,12 +104,8 @@ module _ (g : Digraph) where
       )
 
   pub at-rest-activity : (f : Flood) → (atRest g f ≡ true) ↔ (activity g f ≡ 0)
-  unfolding activity
-  at-rest-activity f =
-      let none = count-zero (λ i. underWay (at (f .states) i)) links in (
-        λ r. none .1 (λ i l. let (a, b) = at-rest-says f .0 r i l in failing (under-way-says _) (⊎-elim a b)),
-        λ z. at-rest-says f .1 (λ i l. let n = fails (under-way-says _) (none .0 z i l) in (λ e. n (inl e), λ e. n (inr e))),
-      )
+  unfolding activity atRest some
+  at-rest-activity f = rw (← count-any (λ i. underWay (at (f .states) i)) links) (eq-says _ 0)
 
 module _ (g : Digraph) (c : Failure) where
   open Digraph g using (links, tail)

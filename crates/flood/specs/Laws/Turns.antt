@@ -1,17 +1,18 @@
 -- The loop of a run that may make a deliveries from f₀: before it, one turn, and its two ends. It stands at f with m deliveries made. Assumes nothing.
-use Prim.Native.Nat.{ℕ, zero, suc, _+_, _-_, _<_, _≤_}
-use mathlib.Core.Path.{_≡_, refl, sym, ap, _∙_}
-use mathlib.Core.Bool.{Bool, true, not}
+use Prim.Native.Nat.{ℕ, suc, _+_, _-_, _<_, _≤_}
+use mathlib.Core.Path.{_≡_, sym, ap, _∙_}
+use mathlib.Core.Bool.{Bool, true, false}
 use mathlib.Core.List.{List}
 use native.Mathlib.Omega.{arith}
-use native.Mathlib.Decide.{decLt}
-use lib.Dec.{leb, ltb}
-use borrow.Author.Tests.{lt-ltb, le-ltb, le-leb, lt-leb}
+use lib.Dec.{leb}
+use borrow.Author.Tests.{le-leb, lt-leb}
+use Rattle.scan.specs.Test.{leb-not}
 use Rattle.scan.specs.Lowest.{any, lowest, lowest-is, None}
 use Rattle.flood.specs.declared.Ran as declared
 use Rattle.flood.specs.Digraph.{Digraph, Failure}
-use Rattle.flood.specs.Machine.{Flood, Ran, underWay, atRest, accepts, some, first, step, run, play, accepted, order}
+use Rattle.flood.specs.Machine.{Flood, Ran, atRest, some, first, step, run, play, accepted, order}
 use Rattle.flood.specs.Lent.{busy, Ended}
+use Rattle.flood.specs.Laws.Run.{next, run-stop, run-step}
 
 -- below the lowest link under way none is
 pub lowest-clear : (l : List ℕ) (n k : ℕ) → k ≡ lowest (busy l) n → None (busy l) k
@@ -23,9 +24,6 @@ more m r = record { flood = r .flood; made = m + r .made }
 
 made-is : (f : Flood) (m n : ℕ) → m ≡ n → _≡_ {A = Ran} (record { flood = f; made = m }) (record { flood = f; made = n })
 made-is f m n e = ap (λ (k : ℕ). record { flood = f; made = k }) e
-
-leb-not : (a b : ℕ) → leb a b ≡ not (ltb b a)
-leb-not a b = elim (decLt b a) [ yes h ↦ rw (lt-leb a b h, lt-ltb b a h) | no h ↦ rw (le-leb a b (omega arith), le-ltb b a (omega arith)) ]
 
 module _ (g : Digraph) (c : Failure) (a : ℕ) (f₀ : Flood) where
   -- what is left of the run
@@ -41,33 +39,22 @@ module _ (g : Digraph) (c : Failure) (a : ℕ) (f₀ : Flood) where
     unfolding atRest some any
     rest-is = rw (← e) (leb-not (g .links) k)
 
-    is-first : k ≡ first g (λ i. underWay) (f .states)
+    is-next : k ≡ next g f
     unfolding first
-    is-first = e
-
-    accepts-lowest : k < g .links → accepts g k f ≡ true
-    unfolding accepts
-    accepts-lowest h = rw (lt-ltb k (g .links) h, e) (lowest-is (busy (f .states)) (g .links) .passes (omega arith))
-
-    -- one delivery, on the lowest link under way
-    run-step : (n : ℕ) → k < g .links → run g c (suc n) f ≡ more 1 (run g c n (step g c k f))
-    unfolding run order play accepted
-    run-step n h = rw (← rest-is, lt-leb (g .links) k h, ← is-first, accepts-lowest h)
+    is-next = e
 
     -- one turn
     pub running-turn : (t : Flood) → m < a → k < g .links → t ≡ step g c k f → Running t (m + 1)
     running-turn t h l d =
         let z : a - m ≡ suc (a - (m + 1)) = omega arith in
-        record { left = r .left ∙ rw (z, run-step (a - (m + 1)) l, d) (made-is _ _ _ (omega arith)) }
-
-    run-stop : (n : ℕ) → g .links ≤ k → run g c n f ≡ record { flood = f; made = 0 }
-    unfolding run order play accepted
-    run-stop zero h = refl
-    run-stop (suc n) h = rw (← rest-is, le-leb (g .links) k h)
+        let moves : atRest g f ≡ false = sym rest-is ∙ lt-leb (g .links) k l in
+        record { left = r .left ∙ rw (z, run-step g c (a - (m + 1)) f moves, d, is-next) (made-is _ _ _ (omega arith)) }
 
     -- nothing is under way
     pub ended-rest : g .links ≤ k → Ended g c a f₀ f m true
-    ended-rest h = record { same = rw (run-stop (a - m) h) (made-is f _ _ (omega arith)) ∙ sym (r .left); rests = sym (le-leb (g .links) k h) ∙ rest-is }
+    ended-rest h =
+        let still : true ≡ atRest g f = sym (le-leb (g .links) k h) ∙ rest-is in
+        record { same = rw (run-stop g c (a - m) f (sym still)) (made-is f _ _ (omega arith)) ∙ sym (r .left); rests = still }
 
     -- the allowance is used
     pub ended-used : a ≤ m → Ended g c a f₀ f m (leb (g .links) k)

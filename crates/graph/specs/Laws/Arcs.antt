@@ -7,7 +7,8 @@ use mathlib.Core.Bool.{Bool, true, false, not, Bool·not-not}
 use mathlib.Core.List.{List}
 use lib.ListN.{getD}
 use Rattle.scan.specs.Test.{Says, eq-says, denies, and-says}
-use Rattle.graph.specs.Walk.{here, step, one, join, replace}
+use Rattle.graph.specs.Walk as walk
+use Rattle.graph.specs.Walk.{one, replace}
 use Rattle.graph.specs.Net.{Net, Fits, end, Ways, Arc, Leads, without, bothWays, along}
 
 -- ---- ends
@@ -42,8 +43,7 @@ widen f p = replace (λ u v a. one (reopen a (f (a .link) (a .way) (a .below) (a
 
 -- and can be walked back where each way's other way is open too
 pub back : {G : Net} {m : Ways} → ((i : ℕ) (d : Bool) → m i d ≡ true → m i (not d) ≡ true) → {u v : ℕ} → Leads G m u v → Leads G m v u
-back f here = here
-back f (step a p) = join (back f p) (one (turn a (f (a .link) (a .way) (a .free))))
+back f p = walk.turn (λ u v a. turn a (f (a .link) (a .way) (a .free))) p
 
 -- ---- one link taken away
 

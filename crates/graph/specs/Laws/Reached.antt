@@ -17,7 +17,7 @@ use Rattle.scan.specs.Flags.{set-only, Extends, extends-refl, extends-set, exte
 use Rattle.graph.specs.Walk.{one, join, stay, carry}
 use Rattle.graph.specs.Net.{Net, Fits, end, Ways, Leads}
 use Rattle.graph.specs.Reach.{markWay, markLink, markLinks, rounds, reached, reaches}
-use Rattle.graph.specs.Laws.Arcs.{arc, end-below, widen}
+use Rattle.graph.specs.Laws.Arcs.{arc, end-below}
 
 abbrev Marked : List Bool → ℕ → Type 0
 Marked s v = has s v ≡ true
@@ -159,10 +159,3 @@ module _ {G : Net} (F : Fits G) (m : Ways) (u : ℕ) (hu : u < G .nodes) where
 
   pub leads? : (v : ℕ) → Dec (Leads G m u v)
   leads? v = says-dec (reaches-iff v)
-
--- only the ways along the net's links count
-pub reaches-same : {G : Net} → Fits G → (m n : Ways) → ((i : ℕ) (d : Bool) → i < G .links → m i d ≡ n i d) → (u : ℕ) → u < G .nodes → (v : ℕ)
-    → reaches G m u v ≡ reaches G n u v
-reaches-same F m n f u h v =
-    reaches-by F n u h _ v
-    (λ e. widen (λ i d l o. sym (f i d l) ∙ o) (reaches-iff F m u h v .0 e), λ p. reaches-iff F m u h v .1 (widen (λ i d l o. f i d l ∙ o) p))

@@ -1,6 +1,6 @@
 -- The table of bench examples: one test that is computed over all rows, and one lemma that gives each row. Serves `bench` of Main.
 -- Assumes nothing.
-use mathlib.Core.Path.{_≡_, refl, sym, _∙_, ap}
+use mathlib.Core.Path.{_≡_, refl, _∙_, ap}
 use mathlib.Core.Bool.{Bool, true, _&&_, and-eq-true-iff}
 use mathlib.Core.Logic.{⊎-elim}
 use mathlib.Core.List.{List, [], _∷_, List·Memᴰ, List·Memᴰ·not-nil, List·Memᴰ·cases-cons}
@@ -8,7 +8,6 @@ use Rattle.scan.specs.Lowest.{lowest, lowestFrom, any, every}
 use Rattle.graph.specs.Reach.{markWay, markLink, markLinks, rounds, reached, reaches}
 use Rattle.graph.specs.Plan.{connects, unreached, parts, assignments, firstThat, plan}
 use Rattle.mesh.specs.Mesh.{endsAnswer, linksAnswer, allZero, meshAnswer}
-use Rattle.codec.specs.Field.{bitMap}
 use Rattle.codec.specs.Record.{recordLength, linkOf, recordAnswer}
 use Rattle.codec.specs.Book.{headerAnswer, recordsAnswer, linksOf, bookAnswer, meshOf, decoded}
 use Rattle.planner.specs.Plan.{planAnswer, planned}

@@ -22,28 +22,29 @@ same-link a b e =
     let (length, pair) = and-eq-true-iff (eqb (a .length) (b .length)) _ .0 e2 in
     λ j. record { low = eqb-true (a .low) (b .low) low j; high = eqb-true (a .high) (b .high) high j; length = eqb-true (a .length) (b .length) length j; pair = eqb-true (a .pair) (b .pair) pair j }
 
-abbrev pub sameLinks : List Link → List Link → Bool
-sameLinks [] [] = true
-sameLinks [] (b ∷ bs) = false
-sameLinks (a ∷ r) [] = false
-sameLinks (a ∷ r) (b ∷ bs) = sameLink a b && sameLinks r bs
+-- lists, by a test of their elements
+abbrev sameAll : {A : Type 0} → (A → A → Bool) → List A → List A → Bool
+sameAll t [] [] = true
+sameAll t [] (b ∷ bs) = false
+sameAll t (a ∷ r) [] = false
+sameAll t (a ∷ r) (b ∷ bs) = t a b && sameAll t r bs
 
-same-links : (r bs : List Link) → sameLinks r bs ≡ true → r ≡ bs
-same-links [] [] e = refl
-same-links [] (b ∷ bs) e = absurd (false≢true e)
-same-links (a ∷ r) [] e = absurd (false≢true e)
-same-links (a ∷ r) (b ∷ bs) e =
-    let (first, rest) = and-eq-true-iff (sameLink a b) _ .0 e in
-    λ j. same-link a b first j ∷ same-links r bs rest j
+same-all : {A : Type 0} (t : A → A → Bool) → ((a b : A) → t a b ≡ true → a ≡ b) → (r bs : List A) → sameAll t r bs ≡ true → r ≡ bs
+same-all t f [] [] e = refl
+same-all t f [] (b ∷ bs) e = absurd (false≢true e)
+same-all t f (a ∷ r) [] e = absurd (false≢true e)
+same-all t f (a ∷ r) (b ∷ bs) e =
+    let (first, rest) = and-eq-true-iff (t a b) _ .0 e in
+    λ j. f a b first j ∷ same-all t f r bs rest j
 
 abbrev pub sameMesh : Mesh → Mesh → Bool
-sameMesh a b = eqb (a .nodes) (b .nodes) && (eqb (a .count) (b .count) && sameLinks (a .links) (b .links))
+sameMesh a b = eqb (a .nodes) (b .nodes) && (eqb (a .count) (b .count) && sameAll sameLink (a .links) (b .links))
 
 same-mesh : (a b : Mesh) → sameMesh a b ≡ true → a ≡ b
 same-mesh a b e =
     let (nodes, e1) = and-eq-true-iff (eqb (a .nodes) (b .nodes)) _ .0 e in
     let (count, links) = and-eq-true-iff (eqb (a .count) (b .count)) _ .0 e1 in
-    λ j. record { nodes = eqb-true (a .nodes) (b .nodes) nodes j; count = eqb-true (a .count) (b .count) count j; links = same-links (a .links) (b .links) links j }
+    λ j. record { nodes = eqb-true (a .nodes) (b .nodes) nodes j; count = eqb-true (a .count) (b .count) count j; links = same-all sameLink same-link (a .links) (b .links) links j }
 
 abbrev pub sameAnswer : Answer → Answer → Bool
 sameAnswer Accepted Accepted = true
@@ -68,18 +69,10 @@ same-decoded a b e =
     λ j. record { mesh = same-mesh (a .mesh) (b .mesh) mesh j; answer = same-answer (a .answer) (b .answer) answer j }
 
 abbrev pub sameNumbers : List ℕ → List ℕ → Bool
-sameNumbers [] [] = true
-sameNumbers [] (b ∷ bs) = false
-sameNumbers (a ∷ r) [] = false
-sameNumbers (a ∷ r) (b ∷ bs) = eqb a b && sameNumbers r bs
+sameNumbers = sameAll eqb
 
 pub same-numbers : (r bs : List ℕ) → sameNumbers r bs ≡ true → r ≡ bs
-same-numbers [] [] e = refl
-same-numbers [] (b ∷ bs) e = absurd (false≢true e)
-same-numbers (a ∷ r) [] e = absurd (false≢true e)
-same-numbers (a ∷ r) (b ∷ bs) e =
-    let (first, rest) = and-eq-true-iff (eqb a b) _ .0 e in
-    λ j. eqb-true a b first j ∷ same-numbers r bs rest j
+same-numbers = same-all eqb eqb-true
 
 abbrev pub samePlanned : Planned → Planned → Bool
 samePlanned a b = sameNumbers (a .plan .directions) (b .plan .directions) && sameAnswer (a .answer) (b .answer)

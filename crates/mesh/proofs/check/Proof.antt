@@ -1,11 +1,10 @@
 -- `mesh::check` meets its contract: each return rewrites with the answers that led there.
-use native.Mathlib.Omega.{arith}
 use mathlib.Core.Path.{_≡_, sym, _∙_}
+use mathlib.Core.Bool.{true}
 use Prim.Native.Nat.{_≤_}
-use lib.ListN.{length}
 use borrow.Author.Tests.{not-true, not-false, leb-true}
 use Rattle.scan.specs.Part.{length-mapped}
-use Rattle.mesh.specs.Mesh.{meshAnswer}
+use Rattle.mesh.specs.Mesh.{nodesFit, countFits, meshAnswer}
 use Rattle.mesh.specs.WellFormed.{InRange}
 use Rattle.mesh.proofs.Ranges.{each-in-range}
 use borrow.Author.Needs.{needs}
@@ -16,8 +15,14 @@ use Rattle.mesh.proofs.check.Tie as tie
 in-range : (c : tie.Start) → InRange (c .args .m)
 in-range c = record { entries = search length-mapped; links = each-in-range (c .args .m .links) _ (c .good .0 .1 .1 .1 .1 .0 .1 .1) }
 
+-- the first two tests have passed
+both-fit : (c : tie.Else2) → let m = c .before .before .before .before .args .m in (nodesFit (m .nodes) ≡ true) × (countFits (m .count) ≡ true)
+both-fit c =
+    let d = c .before .before in
+    (sym (d .before .nodes-fit .ensures) ∙ not-false _ (d .if1 .left), sym (c .before .count-fits .ensures) ∙ not-false _ (c .if2 .left))
+
 few : (c : tie.Else2) → c .before .before .before .before .args .m .count ≤ 256
-few c = leb-true _ _ (sym (c .before .count-fits .ensures) ∙ not-false _ (c .if2 .left))
+few c = leb-true _ _ (both-fit c .1)
 
 nodes-fit-requires : tie.Need-nodes-fit-requires
 nodes-fit-requires c κs = search needs
@@ -49,8 +54,8 @@ unfolding meshAnswer
 returns-3 c =
     let t = c .enum-told2 .given in
     let e = c .before .before in
-    let d = e .before .before .before in
-    (simp (sym (d .before .nodes-fit .ensures) ∙ not-false _ (d .if1 .left), sym (e .before .before .count-fits .ensures) ∙ not-false _ (e .before .if2 .left), sym (e .links-answer .ensures) ∙ t .1) (t .1), in-range (d .before .before))
+    let (nodes, count) = both-fit (e .before) in
+    (simp (nodes, count, sym (e .links-answer .ensures) ∙ t .1) (t .1), in-range (e .before .before .before .before .before))
 
 rest-is-zero-requires : tie.Need-rest-is-zero-requires
 rest-is-zero-requires c κs = few (c .before .before .before)
@@ -60,16 +65,16 @@ unfolding meshAnswer
 returns-4 c =
     let t = c .before .before .enum-told .given in
     let e = c .before .before .before .before in
-    let d = e .before .before .before in
-    (simp (sym (d .before .nodes-fit .ensures) ∙ not-false _ (d .if1 .left), sym (e .before .before .count-fits .ensures) ∙ not-false _ (e .before .if2 .left), sym (e .links-answer .ensures) ∙ t .1, sym (c .before .rest-is-zero .ensures) ∙ c .if3 .taken), in-range (d .before .before))
+    let (nodes, count) = both-fit (e .before) in
+    (simp (nodes, count, sym (e .links-answer .ensures) ∙ t .1, sym (c .before .rest-is-zero .ensures) ∙ c .if3 .taken), in-range (e .before .before .before .before .before))
 
 returns-5 : tie.Need-returns-5
 unfolding meshAnswer
 returns-5 c =
     let t = c .before .before .enum-told .given in
     let e = c .before .before .before .before in
-    let d = e .before .before .before in
-    (simp (sym (d .before .nodes-fit .ensures) ∙ not-false _ (d .if1 .left), sym (e .before .before .count-fits .ensures) ∙ not-false _ (e .before .if2 .left), sym (e .links-answer .ensures) ∙ t .1, sym (c .before .rest-is-zero .ensures) ∙ c .if3 .left), in-range (d .before .before))
+    let (nodes, count) = both-fit (e .before) in
+    (simp (nodes, count, sym (e .links-answer .ensures) ∙ t .1, sym (c .before .rest-is-zero .ensures) ∙ c .if3 .left), in-range (e .before .before .before .before .before))
 
 pub check-spec : {M : Type 1} → statement M
 check-spec =

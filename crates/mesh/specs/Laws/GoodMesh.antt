@@ -1,17 +1,15 @@
--- What the checks of a mesh say of the tests behind them, and entries that are all zero. Assumes nothing.
-use Prim.Native.Nat.{ℕ, zero, suc, _<_}
-use mathlib.Core.Path.{_≡_, refl}
-use mathlib.Core.List.{List, [], _∷_}
-use mathlib.Core.Bool.{true, and-eq-true-iff}
+-- What the checks of a mesh say of the tests behind them. Assumes nothing.
+use Prim.Native.Nat.{ℕ, _<_}
+use mathlib.Core.Path.{_≡_}
+use mathlib.Core.Bool.{true}
 use native.Mathlib.Omega.{arith}
-use lib.ListN.{length, take, drop, replicate}
+use lib.ListN.{take, drop}
 use Rattle.mesh.specs.declared.Link.{Link}
 use Rattle.mesh.specs.declared.Mesh.{Mesh}
 use Rattle.mesh.specs.declared.Answer.the-variants.{Accepted}
-use Rattle.mesh.specs.Mesh.{zeroLink, nodesFit, countFits, linkAnswer, linksAnswer, isZero, allZero, meshAnswer}
+use Rattle.mesh.specs.Mesh.{zeroLink, nodesFit, countFits, linkAnswer, linksAnswer, allZero, meshAnswer}
 use Rattle.mesh.specs.Laws.Answer.{must-accepted, andThen-accepted}
 use Rattle.mesh.specs.Laws.Ends.{ends-accepted}
-use Rattle.mesh.specs.Laws.Refused.{zero-says}
 
 -- ---- one link
 
@@ -23,18 +21,6 @@ module _ (n : ℕ) (p l : Link) (at : ℕ) (e : linkAnswer n p l at ≡ Accepted
   -- and its ends are nodes
   pub ends-below : (l .low < n) × (l .high < n)
   ends-below = let (apart, inside, after) = ends-accepted n (p .low) (p .high) (l .low) (l .high) at .0 e in (omega arith, inside)
-
--- ---- entries that are all zero
-
-pub zero-links : (ls : List Link) → allZero ls ≡ true → ls ≡ replicate (length ls) zeroLink
-unfolding allZero
-zero-links [] e = refl
-zero-links (l ∷ ls) e = let (a, b) = and-eq-true-iff (isZero l) (allZero ls) .0 e in λ j. zero-says l .0 a j ∷ zero-links ls b j
-
-pub all-zero : (n : ℕ) → allZero (replicate n zeroLink) ≡ true
-unfolding allZero
-all-zero zero = refl
-all-zero (suc n) = all-zero n
 
 -- ---- the mesh
 

@@ -1,23 +1,22 @@
 -- What the answer of the mesh checks tells: each refusal is given only on its own condition. Assumes nothing, also not that there are 256 entries.
 use Prim.Native.Nat.{ℕ, zero, suc, _+_, _-_, _<_, _≤_}
-use mathlib.Core.Path.{_≡_, refl, sym, _∙_, subst}
-use mathlib.Core.Logic.{_≢_, ⊎-elim}
-use mathlib.Core.Bool.{true, false, and-eq-true-iff}
+use mathlib.Core.Path.{_≡_, subst}
 use mathlib.Core.List.{List, [], _∷_}
 use native.Mathlib.Omega.{arith}
 use lib.ListN.{length, getD, take, drop, length-take}
 use lib.Seq.{getD-take, getD-drop}
 use borrow.Author.Tests.{leb-true, leb-false}
-use Rattle.scan.specs.Test.{branch, clash, known, fails, Says, le-says, eq-says, and-says}
+use Rattle.scan.specs.Test.{branch, fails, Says, le-says, and-says}
 use Rattle.mesh.specs.declared.Link.{Link}
 use Rattle.mesh.specs.declared.Mesh.{Mesh}
 use Rattle.mesh.specs.declared.Answer.{Answer}
 use Rattle.mesh.specs.declared.Answer.the-variants.{Refused}
-use Rattle.mesh.specs.Mesh.{zeroLink, nodesFit, countFits, linksAnswer, isZero, allZero, meshAnswer}
+use Rattle.mesh.specs.Mesh.{zeroLink, nodesFit, countFits, linksAnswer, allZero, meshAnswer}
 use Rattle.mesh.specs.WellFormed.{link}
 use Rattle.mesh.specs.Refusal.{LinkFault, Faultless, previous, Refusal, nodes-unfit, count-unfit, first-fault, entry-not-zero}
 use Rattle.mesh.specs.Laws.Answer.{Tells, accepting, refusing, told-refused, tells-map, tells-andThen}
 use Rattle.mesh.specs.Laws.Ends.{follows-says, ends-told}
+use Rattle.mesh.specs.Laws.Zeros.{each-zero, one-not-zero}
 
 -- ---- the links in turn
 
@@ -54,33 +53,10 @@ links-told n p i (l ∷ ls) =
     }))
     (λ number place (f, e). record { entry = 0; within = omega arith; placed = omega arith; fault = f; good = λ j h. absurd (omega arith) })
 
--- ---- the entries past the last link
-
-pub zero-says : (l : Link) → Says (isZero l) (l ≡ zeroLink)
-zero-says l = (λ t. same (fields .0 t), λ e. rw e)
-  where
-    fields : Says (isZero l) ((l .low ≡ 0) × ((l .high ≡ 0) × ((l .length ≡ 0) × (l .pair ≡ 0))))
-    fields = and-says (eq-says (l .low) 0) (and-says (eq-says (l .high) 0) (and-says (eq-says (l .length) 0) (eq-says (l .pair) 0)))
-
-    same : (l .low ≡ 0) × ((l .high ≡ 0) × ((l .length ≡ 0) × (l .pair ≡ 0))) → l ≡ zeroLink
-    same (a, (b, (c, d))) = λ j. record { low = a j; high = b j; length = c j; pair = d j }
-
-all-zero : (ls : List Link) → allZero ls ≡ true → (i : ℕ) → getD ls i zeroLink ≡ zeroLink
-unfolding allZero
-all-zero [] t i = refl
-all-zero (l ∷ ls) t zero = zero-says l .0 (and-eq-true-iff (isZero l) (allZero ls) .0 t .0)
-all-zero (l ∷ ls) t (suc i) = all-zero ls (and-eq-true-iff (isZero l) (allZero ls) .0 t .1) i
-
-one-not-zero : (ls : List Link) → allZero ls ≡ false → (i : ℕ) × (getD ls i zeroLink ≢ zeroLink)
-unfolding allZero
-one-not-zero [] f = clash refl f
-one-not-zero (l ∷ ls) f =
-    ⊎-elim
-    (λ z. let (i, h) = one-not-zero ls (sym (rw z) ∙ f) in (suc i, h))
-    (λ z. (0, fails (zero-says l) z))
-    (known (isZero l))
-
 -- ---- the whole
+
+pub nodes-says : (n : ℕ) → Says (nodesFit n) ((2 ≤ n) × (n ≤ 64))
+nodes-says n = and-says (le-says 2 n) (le-says n 64)
 
 -- what holds of an accepted mesh; the checks do not see a link past the end of the list
 pub record Sound (m : Mesh) : Type 0 where
@@ -108,21 +84,18 @@ mesh-told m =
     (λ b. tells-andThen (links-told (m .nodes) zeroLink 0 (take (m .count) (m .links)))
     (λ c. branch Told (allZero (drop (m .count) (m .links)))
     (λ d. accepting (record {
-      nodes = nodes .0 a;
+      nodes = nodes-says (m .nodes) .0 a;
       count = leb-true _ _ b;
       faultless = λ i h l. good-taken m i h _ (simp length-take (omega arith)) c;
-      zeros = λ i h. let s : m .count + (i - m .count) ≡ i = omega arith in rw (getD-drop, s) at (all-zero (drop (m .count) (m .links)) d (i - m .count));
+      zeros = λ i h. let s : m .count + (i - m .count) ≡ i = omega arith in rw (getD-drop, s) at (each-zero (drop (m .count) (m .links)) d (i - m .count));
     }))
     (λ d. let (i, z) = one-not-zero (drop (m .count) (m .links)) d in refusing (entry-not-zero (m .count + i) (omega arith) (rw getD-drop at z))))
     fault)
     (λ b. refusing (count-unfit (leb-false _ _ b))))
-    (λ a. refusing (nodes-unfit (fails nodes a)))
+    (λ a. refusing (nodes-unfit (fails (nodes-says (m .nodes)) a)))
   where
     Told : Answer → Type 0
     Told = Tells (Sound m) (Refusal m)
-
-    nodes : Says (nodesFit (m .nodes)) ((2 ≤ m .nodes) × (m .nodes ≤ 64))
-    nodes = and-says (le-says 2 (m .nodes)) (le-says (m .nodes) 64)
 
     fault : (number place : ℕ) → FirstFault (m .nodes) zeroLink 0 (take (m .count) (m .links)) number place → Refusal m number place
     fault number place r =

@@ -4,8 +4,7 @@ use mathlib.Core.Path.{_≡_, refl}
 use mathlib.Core.Logic.{⊎-elim}
 use mathlib.Core.Bool.{Bool, true, false, not}
 use native.Mathlib.Omega.{arith}
-use native.Mathlib.Numerals.{add-one}
-use native.Mathlib.Decide.{decLt, le-ind}
+use Rattle.scan.specs.Rising.{rising-inj}
 use Rattle.mesh.specs.declared.Mesh.{Mesh}
 use Rattle.mesh.specs.declared.Answer.the-variants.{Accepted}
 use Rattle.mesh.specs.Mesh.{meshAnswer}
@@ -23,22 +22,6 @@ well-formed-fits W = record {
   low-below = λ i h. omega (arith, W .joins i h .apart, W .joins i h .inside);
   high-below = λ i h. W .joins i h .inside;
 }
-
--- ---- rising numbers
-
-module _ (f : ℕ → ℕ) (n : ℕ) (step : (i : ℕ) → i + 1 < n → f i < f (i + 1)) where
-  rising : (i j : ℕ) → i < j → j < n → f i < f j
-  rising i j h =
-      le-ind (λ j. j < n → f i < f j)
-      (λ l. rw (add-one i) at (step i (omega arith)))
-      (λ j _ g l. let s = rw (add-one j) at (step j (omega arith)) in omega (arith, g (omega arith)))
-      j h
-
-  rising-inj : (i j : ℕ) → i < n → j < n → f i ≡ f j → i ≡ j
-  rising-inj i j h l e = elim (decLt i j) [
-    | yes b ↦ absurd (omega (arith, rising i j b l))
-    | no b ↦ elim (decLt j i) [ yes c ↦ absurd (omega (arith, rising j i c h)) | no c ↦ omega arith ]
-  ]
 
 -- ---- no two ways have the same ends
 

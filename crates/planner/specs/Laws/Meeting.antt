@@ -1,29 +1,17 @@
 -- The search from both sides: ahead from u along the arcs, and back from v along the arcs turned round. A walk leads from u to v just where the two meet; once
 -- one side is done and they have not met, none does. Assumes nothing.
-use Prim.Native.Nat.{ℕ, zero, suc, _/_, _%_}
+use Prim.Native.Nat.{ℕ}
 use mathlib.Core.Path.{_≡_, refl}
 use mathlib.Core.Bool.{true, false, false≢true}
 use mathlib.Core.List.{List}
 use native.Mathlib.Omega.{arith}
-use lib.Bits.{bitAnd, bitXor, and-step, and-lt}
+use lib.Bits.{bitAnd, bitXor, and-lt}
 use lib.Count.{trailingZeros}
-use borrow.Author.Tests.{eqb-true, eq-eqb}
 use Rattle.scan.specs.Test.{clash, Says}
-use Rattle.scan.specs.Bits.{has, has-none, Digit, trailing-is}
+use Rattle.scan.specs.Bits.{has, has-none, has-and-says, Digit, trailing-is}
 use Rattle.graph.specs.Walk.{Walk, join, turn}
 use Rattle.planner.specs.Rows.{Edge, Mirror}
 use Rattle.planner.specs.Laws.Spreading.{Spreading, spread-all, spread-says}
-
--- the digits of `x & y`
-has-and-says : (x y v : ℕ) → Says (has (bitAnd x y) v) ((has x v ≡ true) × (has y v ≡ true))
-unfolding has
-has-and-says x y zero = (
-  λ e. let h : bitAnd x y % 2 ≡ 1 = eqb-true _ 1 e in (eq-eqb (x % 2) 1 (omega (arith, and-step x y)), eq-eqb (y % 2) 1 (omega (arith, and-step x y))),
-  λ (p, q). eq-eqb (bitAnd x y % 2) 1 (omega (arith, and-step x y, eqb-true (x % 2) 1 p, eqb-true (y % 2) 1 q)),
-)
-has-and-says x y (suc v) =
-    let half : bitAnd x y / 2 ≡ bitAnd (x / 2) (y / 2) = omega (arith, and-step x y) in
-    rw half (has-and-says (x / 2) (y / 2) v)
 
 module _ {leaving entering : List ℕ} (M : Mirror leaving entering) {u v ahead ahead-done back back-done : ℕ}
     (A : Spreading leaving u ahead ahead-done) (B : Spreading entering v back back-done) where

@@ -1,17 +1,16 @@
 -- The arrays of a topology, filled entry by entry, and counts over the states of the links. Assumes nothing.
 use Prim.Native.Nat.{ℕ, _+_, _<_, _≤_, min}
 use mathlib.Core.Path.{_≡_, refl, sym, _∙_}
-use mathlib.Core.Bool.{Bool, cond, not, _&&_}
+use mathlib.Core.Bool.{cond, not, _&&_}
 use mathlib.Core.List.{List}
 use native.Mathlib.Omega.{arith}
 use native.Mathlib.Decide.{decLt}
 use lib.Dec.{eqb}
 use lib.ListN.{length, set, length-set, List·getD-eq-default}
 use borrow.Author.Tests.{eq-eqb, ne-eqb}
-use Rattle.scan.specs.Test.{branch, eq-says, not-says, says-same}
+use Rattle.scan.specs.Test.{branch}
 use Rattle.scan.specs.Entry.{at, moved, set-at}
-use Rattle.scan.specs.Lowest.{any, any-fails, any-none}
-use Rattle.scan.specs.Total.{count, count-zero}
+use Rattle.scan.specs.Total.{count-any}
 use Rattle.mesh.specs.declared.Link.{Link}
 use Rattle.mesh.specs.declared.Mesh.{Mesh}
 use Rattle.mesh.specs.declared.Plan.{Plan}
@@ -115,12 +114,6 @@ module _ (m : Mesh) (p : Plan) (good : meshAnswer m ≡ Accepted) (k : ℕ) (bel
 
 -- ---- counts of a session's links, of which there are at most 256
 
--- none is counted just where none passes
-count-none : (p : ℕ → Bool) (n : ℕ) → eqb (count p n) 0 ≡ not (any p n)
-count-none p n =
-    says-same (eq-says (count p n) 0)
-    (λ t. count-zero p n .1 (any-fails p n (not-says _ .0 t)), λ e. not-says _ .1 (any-none p n n (count-zero p n .0 e) (omega arith)))
-
 module _ (s : Session) (few : s .mesh .count ≤ 256) where
   pub under-way-counted : underWayOf (s .mesh .count) (s .flood .states) ≡ activity (digraph s) (s .flood)
   unfolding underWayOf activity
@@ -132,7 +125,7 @@ module _ (s : Session) (few : s .mesh .count ≤ 256) where
 
   pub resting-counted : eqb (underWayOf (s .mesh .count) (s .flood .states)) 0 ≡ resting s
   unfolding underWayOf atRest some
-  resting-counted = rw (min-few (s .mesh .count) few) (count-none (λ i. underWay (at (s .flood .states) i)) (s .mesh .count))
+  resting-counted = rw (min-few (s .mesh .count) few) (count-any (λ i. underWay (at (s .flood .states) i)) (s .mesh .count))
 
   -- the route length, by the number of links that are under way
   pub length-counted : lengthBy (s .mesh .count) (s .cut) (s .flood .states) (underWayOf (s .mesh .count) (s .flood .states)) ≡ routeLength s

@@ -17,6 +17,7 @@ use Rattle.flood.specs.declared.Route.{Route}
 use Rattle.flood.specs.Digraph.{Digraph, Failure}
 use Rattle.flood.specs.Machine as machine
 use Rattle.flood.specs.Machine.{step}
+use Rattle.flood.specs.Laws.Tests.{accepts-says}
 use Rattle.flood.specs.Topology as topology
 use Rattle.flood.specs.Topology.{underWayOf}
 use Rattle.recovery.specs.declared.Cut.{Cut}
@@ -35,6 +36,7 @@ use Rattle.recovery.specs.Calls.{digraph, failureOf, failure, standing, 
 use Rattle.recovery.specs.Calls.{withFlood, resting, change, deliveryAs, afterDelivery, runAs, afterRun, statusAs, statusOf, routeOf, asRoute, routedAs}
 use Rattle.recovery.specs.Arrays.{cutFailure, cutLink, actedBy, lengthBy}
 use Rattle.recovery.specs.Laws.Forming.{record-mesh, record-few, record-cut}
+use Rattle.recovery.specs.Laws.Tested as tested
 use Rattle.recovery.specs.Laws.Arrays.{under-way-counted, length-counted}
 
 -- ---- what an accepted call has passed
@@ -42,22 +44,17 @@ use Rattle.recovery.specs.Laws.Arrays.{under-way-counted, length-counted
 module _ (s : Session) where
   pub cut-accepted : (k : ℕ) → cutAnswer s k ≡ Accepted → (recordAnswer s ≡ Accepted) × (k < s .mesh .count)
   unfolding cutAnswer
-  cut-accepted k e =
-      let (r, a) = andThen-accepted (recordAnswer s) _ e in
-      (r, ltb-true _ _ (must-accepted (isLink s k) 12 k _ a .0))
+  cut-accepted k e = (andThen-accepted (recordAnswer s) _ e .0, tested.cut-accepted s k e .0)
 
   pub deliver-accepted : (k : ℕ) → deliverAnswer s k ≡ Accepted → (recordAnswer s ≡ Accepted) × (k < s .mesh .count) × (standing (s .cut) ≡ true)
   unfolding deliverAnswer
   deliver-accepted k e =
-      let (r, a) = andThen-accepted (recordAnswer s) _ e in
-      let (l, b) = must-accepted (isLink s k) 12 k _ a in
-      (r, ltb-true _ _ l, must-accepted (standing (s .cut)) 23 k _ b .0)
+      let (c, a) = tested.deliver-accepted s k e in
+      (andThen-accepted (recordAnswer s) _ e .0, accepts-says (digraph s) k (s .flood) .0 a .0, c)
 
   pub run-accepted : runAnswer s ≡ Accepted → (recordAnswer s ≡ Accepted) × (standing (s .cut) ≡ true)
   unfolding runAnswer
-  run-accepted e =
-      let (r, a) = andThen-accepted (recordAnswer s) _ e in
-      (r, must-accepted (standing (s .cut)) 23 0 _ a .0)
+  run-accepted e = (andThen-accepted (recordAnswer s) _ e .0, tested.run-accepted s e)
 
   pub status-accepted : (k : ℕ) → statusAnswer s k ≡ Accepted → (recordAnswer s ≡ Accepted) × (k < s .mesh .count)
   unfolding statusAnswer

@@ -1,15 +1,15 @@
 -- The record test accepts exactly the well-formed records, and refuses with the mesh's own refusal or with 13 at 0. Assumes nothing.
-use Prim.Native.Nat.{ℕ, zero, suc, _<_, _≤_}
+use Prim.Native.Nat.{ℕ, _<_, _≤_}
 use mathlib.Core.Path.{_≡_, refl, sym, subst, _∙_}
 use mathlib.Core.Logic.{_↔_}
 use mathlib.Core.Bool.{Bool, true, false, not, _||_}
 use mathlib.Core.List.{List}
 use native.Mathlib.Omega.{arith}
 use native.Mathlib.Decide.{decLt}
-use lib.Dec.{eqb, ltb}
+use lib.Dec.{eqb}
 use lib.ListN.{length}
-use borrow.Author.Tests.{lt-ltb, le-ltb, ltb-false, ne-eqb, leb-false, lt-leb}
-use Rattle.scan.specs.Test.{branch, clash, Says, le-says, and-says, not-says, fails, failing}
+use borrow.Author.Tests.{lt-ltb, le-ltb, ltb-false, leb-false, lt-leb}
+use Rattle.scan.specs.Test.{branch, clash, Says, le-says, and-says, not-says, nor-says, ltb-zero, fails, failing}
 use Rattle.scan.specs.Entry.{at, has}
 use Rattle.scan.specs.Lowest.{any-none, any-fails}
 use Rattle.mesh.specs.declared.Mesh.{Mesh}
@@ -29,10 +29,6 @@ use Rattle.recovery.specs.WellFormed.{Bounded, PlanFormed, CutFormed, Fl
 
 -- ---- one entry
 
-positive : (v : ℕ) → ltb 0 v ≡ not (eqb v 0)
-positive zero = refl
-positive (suc v) = lt-ltb 0 (suc v) (omega arith) ∙ sym (rw (ne-eqb (suc v) 0 (λ e. omega arith)))
-
 module _ (links top i v : ℕ) where
   pub over-above : i < links → top < v → isOver links top i v ≡ true
   unfolding isOver
@@ -44,7 +40,7 @@ module _ (links top i v : ℕ) where
 
   pub over-past : links ≤ i → isOver links top i v ≡ not (eqb v 0)
   unfolding isOver
-  over-past h = rw (le-ltb i links h) (positive v)
+  over-past h = rw (le-ltb i links h) (ltb-zero v)
 
 -- ---- each part of the record
 
@@ -89,11 +85,6 @@ strays-says n reached = (
     stray : (v : ℕ) → Says (p v) ((n ≤ v) × (has reached v ≡ true))
     stray v = and-says (le-says n v) (λ e. e, λ e. e)
 
--- neither test passes
-nor-says : (s t : Bool) {A B : Type 0} → Says (not s) A → Says (not t) B → Says (not (s || t)) (A × B)
-nor-says true t f g = (λ e. clash e refl, λ (a, b). f .1 a)
-nor-says false t f g = (λ e. (f .0 refl, g .0 e), λ (a, b). g .1 b)
-
 module _ (m : Mesh) (f : Flood) (few : m .count ≤ 256) where
   flood-parts : Says (not (floodFault m f)) (Bounded (m .count) 4 (f .states) × ((v : ℕ) → v < 64 → has (f .reached) v ≡ true → v < m .nodes))
   unfolding floodFault
@@ -122,16 +113,20 @@ refused-more : (m : Mesh) {F G : Type 0} → (G → F) → (number place : ℕ) 
 refused-more m f number place (of-mesh e) = of-mesh e
 refused-more m f number place (ill-formed e n) = ill-formed e (λ g. n (f g))
 
--- the answer accepts just where the mesh is well formed and F holds
+-- where the mesh is accepted and F holds, the answer accepts
+told-accepts : (m : Mesh) {F : Type 0} {a : Answer} → Told m F a → meshAnswer m ≡ Accepted → F → a ≡ Accepted
+told-accepts m {F} t b f = tells-accepted t never
+  where
+    never : (number place : ℕ) → Refusal m F number place → ⊥
+    never number place (of-mesh e) = refused-accepted (sym e ∙ b)
+    never number place (ill-formed e n) = n f
+
+-- it accepts just where the mesh is well formed and F holds
 told-formed : (m : Mesh) {F : Type 0} {a : Answer} → Told m F a → length (m .links) ≡ 256 → (a ≡ Accepted) ↔ (WellFormed m × F)
 told-formed m {F} {a} t sized = (
   λ e. let (b, f) = told-accepted (subst (Told m F) e t) in (well-formed m sized b, f),
-  λ (w, f). tells-accepted t (never (accepts m sized w) f),
+  λ (w, f). told-accepts m t (accepts m sized w) f,
 )
-  where
-    never : meshAnswer m ≡ Accepted → F → (number place : ℕ) → Refusal m F number place → ⊥
-    never b f number place (of-mesh e) = refused-accepted (sym e ∙ b)
-    never b f number place (ill-formed e n) = n f
 
 module _ (m : Mesh) (p : Plan) where
   start-told : Told m (PlanFormed m p) (startAnswer m p)
@@ -143,6 +138,10 @@ module _ (m : Mesh) (p : Plan) where
   -- a start accepts exactly a well-formed mesh with a well-formed plan
   pub start-formed : length (m .links) ≡ 256 → (startAnswer m p ≡ Accepted) ↔ (WellFormed m × PlanFormed m p)
   start-formed = told-formed m start-told
+
+  -- whatever the length of the mesh's list of links
+  pub start-accepts : meshAnswer m ≡ Accepted → PlanFormed m p → startAnswer m p ≡ Accepted
+  start-accepts = told-accepts m start-told
 
   pub refused-start : {number place : ℕ} → startAnswer m p ≡ Refused number place → Refusal m (PlanFormed m p) number place
   refused-start e = told-refused (subst (Told m (PlanFormed m p)) e start-told)
@@ -175,6 +174,10 @@ module _ (s : Session) where
         λ e. let (w, (p, (c, f))) = says .0 e in record { mesh = w; plan = p; cut = c; flood = f },
         λ F. says .1 (F .mesh, (F .plan, (F .cut, F .flood))),
       )
+
+  pub record-accepts : meshAnswer (s .mesh) ≡ Accepted → PlanFormed (s .mesh) (s .plan) → CutFormed (s .mesh) (s .cut) → FloodFormed (s .mesh) (s .flood)
+      → recordAnswer s ≡ Accepted
+  record-accepts b p c f = told-accepts (s .mesh) record-told b (p, (c, f))
 
   -- it refuses with the mesh's own refusal, or with 13 at 0 where the mesh is accepted and the record is ill-formed
   pub refused-record : {number place : ℕ} → recordAnswer s ≡ Refused number place → Refusal (s .mesh) (Formed s) number place

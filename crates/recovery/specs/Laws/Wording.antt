@@ -5,12 +5,11 @@ use mathlib.Core.Logic.{_≢_}
 use mathlib.Core.Bool.{Bool, true, false}
 use mathlib.Core.List.{List}
 use native.Mathlib.Omega.{arith}
-use native.Mathlib.Decide.{decLt}
-use lib.ListN.{length, set, List·getD-eq-default}
+use lib.ListN.{length, set}
 use lib.Seq.{getD-set-other}
 use borrow.Author.Tests.{eq-eqb, ne-eqb, eqb-false}
 use Rattle.scan.specs.Test.{failing}
-use Rattle.scan.specs.Entry.{at, has, set-at}
+use Rattle.scan.specs.Entry.{at, has, at-inside, set-at}
 use Rattle.flood.specs.declared.Flood.{Flood}
 use Rattle.flood.specs.Digraph.{Digraph, Failure}
 use Rattle.flood.specs.Digraph as failures
@@ -27,10 +26,6 @@ use Rattle.recovery.specs.Laws.Tested.{deliver-accepted}
 
 -- ---- the state of the link delivered on
 
--- an entry that is not zero is one of the list
-entry-inside : (l : List ℕ) (j : ℕ) → 0 < at l j → j < length l
-entry-inside l j h = elim (decLt j (length l)) [ yes b ↦ b | no b ↦ absurd (omega (arith, List·getD-eq-default l 0 {n = j} (omega arith))) ]
-
 module _ (g : Digraph) (c : Failure) (f : Flood) (j : ℕ) (t : accepts g j f ≡ true) where
   open Digraph g using (head)
   open Failure c using (target)
@@ -39,7 +34,7 @@ module _ (g : Digraph) (c : Failure) (f : Flood) (j : ℕ) (t : accepts g j f �
   S = at (f .states)
 
   set-state : 0 < S j → (v : ℕ) → at (set (f .states) j v) j ≡ v
-  set-state h v = set-at (f .states) j v (entry-inside (f .states) j h) .there
+  set-state h v = set-at (f .states) j v (at-inside (f .states) j h) .there
 
   -- its head is reached already; it is the target; it has links to offer; it has none
   module _ (o : S j ≡ 1) where
@@ -56,7 +51,7 @@ module _ (g : Digraph) (c : Failure) (f : Flood) (j : ℕ) (t : accepts g j f �
       unfolding step arrive
       state-offers w =
           let l : List ℕ = offer (opens g c (head j)) (f .states) in
-          let b : j < length l = omega (arith, length-offer (opens g c (head j)) (f .states), entry-inside (f .states) j (omega arith)) in
+          let b : j < length l = omega (arith, length-offer (opens g c (head j)) (f .states), at-inside (f .states) j (omega arith)) in
           rw (t, o, r, ne-eqb (head j) target n, some-opens-says g c (head j) (f .states) n .1 w) (set-at l j 2 b .there)
 
       state-none : ((i : ℕ) × Opens g c S (head j) i → ⊥) → at (step g c j f .states) j ≡ 3

@@ -4,15 +4,14 @@ use borrow.Author.Needs.{needs}
 use native.Mathlib.Omega.{arith}
 use mathlib.Core.Path.{_≡_, refl, sym, _∙_, ap}
 use mathlib.Core.List.{List}
-use mathlib.Core.Bool.{and-eq-true-iff}
 use Prim.Native.Nat.{ℕ, _-_, _≤_}
 use denote.Ref.{now}
-use lib.Dec.{leb}
 use lib.ListN.{length, getD, drop}
 use Rattle.codec.specs.Record.{recordLength, linkOf, recordAnswer}
 use Rattle.mesh.specs.declared.Answer.the-variants.{Accepted}
 use borrow.Author.Tests.{leb-true}
 use Rattle.scan.specs.Part.{part-rest}
+use Rattle.mesh.specs.Laws.Refused.{nodes-says}
 use Rattle.codec.specs.Laws.Accepted.{GoodHeader, header-accepted}
 use Rattle.codec.specs.Laws.Reading.{allRecords, Reading, reading-start, reading-refused, reading-within, reading-next, reading-extra, reading-done, reading-mesh, decoded-refused, decoded-done}
 use Rattle.codec.proofs.reader.read_records.Statement.{statement}
@@ -91,7 +90,7 @@ part-read-record-end c = search needs
 read-record-requires : tie.Need-read-record-requires Inv-loop μ-loop
 read-record-requires c κs =
     let a = c .before .before .before .before .before .before .before .before in
-    leb-true _ _ (and-eq-true-iff (leb 2 (getD (now (a .args .book)) 1 0)) (leb (getD (now (a .args .book)) 1 0) 64) .0 (good a .nodes) .1)
+    nodes-says (getD (now (a .args .book)) 1 0) .0 (good a .nodes) .1
 
 enum-told : tie.Need-enum-told Inv-loop μ-loop
 enum-told c = search needs

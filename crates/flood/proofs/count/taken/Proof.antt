@@ -6,10 +6,9 @@ use mathlib.Core.Logic.{⊎-elim}
 use mathlib.Core.Bool.{Bool}
 use native.Mathlib.Omega.{arith}
 use denote.Ref.{now}
-use Rattle.scan.specs.Total.{count, count-le}
+use Rattle.scan.specs.Total.{count, count-le, count-none, count-pass, count-fail}
 use Rattle.scan.specs.Entry.{at}
 use lib.Dec.{eqb}
-use Rattle.flood.specs.Laws.Loops.{count-none, count-pass, count-fail}
 use Rattle.flood.proofs.count.taken.Statement.{statement}
 use Rattle.flood.proofs.count.taken.Tie as tie
 

@@ -5,9 +5,8 @@ use mathlib.Core.Path.{_≡_, sym, _∙_}
 use mathlib.Core.Logic.{⊎-elim}
 use native.Mathlib.Omega.{arith}
 use denote.Ref.{now}
-use Rattle.scan.specs.Total.{count, count-le}
+use Rattle.scan.specs.Total.{count, count-le, count-none, count-pass, count-fail}
 use Rattle.flood.specs.Lent.{busy}
-use Rattle.flood.specs.Laws.Loops.{count-none, count-pass, count-fail}
 use Rattle.flood.proofs.count.under_way.Statement.{statement}
 use Rattle.flood.proofs.count.under_way.Tie as tie
 

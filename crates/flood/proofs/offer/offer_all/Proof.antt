@@ -8,9 +8,8 @@ use native.Mathlib.Omega.{arith}
 use lib.ListN.{length, length-set}
 use denote.Ref.{now}
 use Rattle.scan.specs.Entry.{at}
-use Rattle.scan.specs.Sweep.{sweepTo, sweep-none}
+use Rattle.scan.specs.Sweep.{sweepTo, sweep-none, sweep-turn}
 use Rattle.flood.specs.Lent.{leaving}
-use Rattle.flood.specs.Laws.Loops.{sweep-turn}
 use Rattle.flood.proofs.offer.offer_all.Statement.{statement}
 use Rattle.flood.proofs.offer.offer_all.Tie as tie
 

@@ -8,10 +8,9 @@ use native.Mathlib.Omega.{arith}
 use lib.ListN.{length, length-set}
 use denote.Ref.{now}
 use Rattle.scan.specs.Entry.{at}
-use Rattle.scan.specs.Lowest.{any}
-use Rattle.scan.specs.Sweep.{sweepTo, sweep-none}
+use Rattle.scan.specs.Lowest.{any, any-zero, any-turn}
+use Rattle.scan.specs.Sweep.{sweepTo, sweep-none, sweep-reads, sweep-turn}
 use Rattle.flood.specs.Lent.{opening}
-use Rattle.flood.specs.Laws.Loops.{any-zero, any-turn, sweep-reads, sweep-turn}
 use Rattle.flood.proofs.offer.offer_quiet.Statement.{statement}
 use Rattle.flood.proofs.offer.offer_quiet.Tie as tie
 

@@ -5,9 +5,8 @@ use mathlib.Core.Bool.{Bool}
 use native.Mathlib.Omega.{arith}
 use denote.Ref.{now}
 use borrow.Author.Needs.{needs}
-use Rattle.scan.specs.Lowest.{any}
+use Rattle.scan.specs.Lowest.{any, any-zero, any-turn}
 use Rattle.flood.specs.Lent.{taken}
-use Rattle.flood.specs.Laws.Loops.{any-zero, any-turn}
 use Rattle.flood.proofs.search.taken_within.Statement.{statement}
 use Rattle.flood.proofs.search.taken_within.Tie as tie
 

@@ -5,7 +5,7 @@ use native.Mathlib.Omega.{arith}
 use Rattle.scan.specs.Test.{Says, eq-says, says-same}
 use Rattle.mesh.specs.declared.Link.{Link}
 use Rattle.mesh.specs.Mesh.{zeroLink, isZero}
-use Rattle.mesh.specs.Laws.Refused.{zero-says}
+use Rattle.mesh.specs.Laws.Zeros.{zero-says}
 use borrow.Author.Needs.{needs}
 use Rattle.mesh.proofs.links.is_zero.Statement.{statement}
 use Rattle.mesh.proofs.links.is_zero.Tie as tie
