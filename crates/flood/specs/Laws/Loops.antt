@@ -6,7 +6,6 @@ use native.Mathlib.Omega.{arith}
 use native.Mathlib.Decide.{decLt}
 use Rattle.scan.specs.Entry.{at}
 use Rattle.scan.specs.Lowest.{any, lowest, any-says, any-found, any-fails, any-none, lowest-found, lowest-none, none-yet, none-next}
-pub use Rattle.scan.specs.Lowest.{any-zero, any-turn}
 use Rattle.flood.specs.Lent.{Passed, Stopped}
 
 pub passed-none : (p : ℕ → Bool) (links : ℕ) → Passed p links 0

@@ -1,15 +1,13 @@
--- What an accepted call has passed, and what each call gives by the way it goes. Assumes nothing.
+-- What each call gives by the way it goes. Assumes nothing.
 use Prim.Native.Nat.{ℕ, _<_, _≤_}
 use mathlib.Core.Path.{_≡_, refl, sym, ap, _∙_}
 use mathlib.Core.Bool.{Bool, true, false, cond}
 use mathlib.Core.List.{List, []}
-use borrow.Author.Tests.{ltb-true}
 use Rattle.scan.specs.Test.{clash}
 use Rattle.scan.specs.Entry.{at}
 use Rattle.mesh.specs.declared.Answer.{Answer}
 use Rattle.mesh.specs.declared.Answer.the-variants.{Accepted, Refused}
 use Rattle.mesh.specs.Mesh.{meshAnswer}
-use Rattle.mesh.specs.Laws.Answer.{must-accepted, andThen-accepted}
 use Rattle.flood.specs.declared.Flood.{Flood}
 use Rattle.flood.specs.declared.Topology.{Topology}
 use Rattle.flood.specs.declared.Ran.{Ran}
@@ -17,7 +15,6 @@ use Rattle.flood.specs.declared.Route.{Route}
 use Rattle.flood.specs.Digraph.{Digraph, Failure}
 use Rattle.flood.specs.Machine as machine
 use Rattle.flood.specs.Machine.{step}
-use Rattle.flood.specs.Laws.Tests.{accepts-says}
 use Rattle.flood.specs.Topology as topology
 use Rattle.flood.specs.Topology.{underWayOf}
 use Rattle.recovery.specs.declared.Cut.{Cut}
@@ -32,35 +29,12 @@ use Rattle.recovery.specs.declared.Run.{Run}
 use Rattle.recovery.specs.declared.Status.the-variants as status
 use Rattle.recovery.specs.declared.Routed.{Routed}
 use Rattle.recovery.specs.Formed.{recordAnswer}
-use Rattle.recovery.specs.Calls.{digraph, failureOf, failure, standing, isLink, cutAnswer, deliverAnswer, runAnswer, statusAnswer}
+use Rattle.recovery.specs.Calls.{digraph, failureOf, failure, standing, deliverAnswer, runAnswer, statusAnswer}
 use Rattle.recovery.specs.Calls.{withFlood, resting, change, deliveryAs, afterDelivery, runAs, afterRun, statusAs, statusOf, routeOf, asRoute, routedAs}
 use Rattle.recovery.specs.Arrays.{cutFailure, cutLink, actedBy, lengthBy}
 use Rattle.recovery.specs.Laws.Forming.{record-mesh, record-few, record-cut}
-use Rattle.recovery.specs.Laws.Tested as tested
+use Rattle.recovery.specs.Laws.Tested.{status-accepted}
 use Rattle.recovery.specs.Laws.Arrays.{under-way-counted, length-counted}
-
--- ---- what an accepted call has passed
-
-module _ (s : Session) where
-  pub cut-accepted : (k : ℕ) → cutAnswer s k ≡ Accepted → (recordAnswer s ≡ Accepted) × (k < s .mesh .count)
-  unfolding cutAnswer
-  cut-accepted k e = (andThen-accepted (recordAnswer s) _ e .0, tested.cut-accepted s k e .0)
-
-  pub deliver-accepted : (k : ℕ) → deliverAnswer s k ≡ Accepted → (recordAnswer s ≡ Accepted) × (k < s .mesh .count) × (standing (s .cut) ≡ true)
-  unfolding deliverAnswer
-  deliver-accepted k e =
-      let (c, a) = tested.deliver-accepted s k e in
-      (andThen-accepted (recordAnswer s) _ e .0, accepts-says (digraph s) k (s .flood) .0 a .0, c)
-
-  pub run-accepted : runAnswer s ≡ Accepted → (recordAnswer s ≡ Accepted) × (standing (s .cut) ≡ true)
-  unfolding runAnswer
-  run-accepted e = (andThen-accepted (recordAnswer s) _ e .0, tested.run-accepted s e)
-
-  pub status-accepted : (k : ℕ) → statusAnswer s k ≡ Accepted → (recordAnswer s ≡ Accepted) × (k < s .mesh .count)
-  unfolding statusAnswer
-  status-accepted k e =
-      let (r, a) = andThen-accepted (recordAnswer s) _ e in
-      (r, ltb-true _ _ (must-accepted (isLink s k) 12 k _ a .0))
 
 -- ---- the cut that stands
 

@@ -92,7 +92,7 @@ module _ (m : Mesh) (p : Plan) where
     call-kept {s} {l} K (cut w k) = by-answer (cutAnswer s k) refl
       where
         by-answer : (a : Answer) → cutAnswer s k ≡ a → let r = change a s (cutOn s k) in Kept (r .session) (note (cut w k) (r .answer) l)
-        by-answer Accepted e = let (h, c) = cut-accepted s k e in cut-kept K k h c
+        by-answer Accepted e = let (r, h, c) = cut-accepted s k e in cut-kept K k h c
         by-answer (Refused number place) e = K
     call-kept {s} {l} K (deliver w k) = by-answer (deliverAnswer s k) refl
       where
@@ -101,7 +101,7 @@ module _ (m : Mesh) (p : Plan) where
 
         by-answer : (a : Answer) → deliverAnswer s k ≡ a → let r = deliveryAs a s k f in Kept (r .session) (note (deliver w k) (r .answer) l)
         by-answer Accepted e =
-            let (c, a) = deliver-accepted s k e in
+            let (r, b, c, a) = deliver-accepted s k e in
             let one : suc (l .deliveries) ≡ l .deliveries + bit (accepted (acted (digraph s) k (at (f .states) k))) = rw acted-accepted (omega arith) in
             subst (λ (n : ℕ). Kept (withFlood s f) (record { cut = l .cut; deliveries = n })) one (deliver-kept K k c a)
         by-answer (Refused number place) e = subst (λ (n : ℕ). Kept s (record { cut = l .cut; deliveries = n })) (omega arith) K
@@ -109,7 +109,7 @@ module _ (m : Mesh) (p : Plan) where
       where
         by-answer : (a : Answer) → runAnswer s ≡ a → let r = runAs a s (machine.run (digraph s) (failure s) n (s .flood)) in
             Kept (r .session) (note (run n) (r .report) l)
-        by-answer Accepted e = run-kept K n (run-accepted s e)
+        by-answer Accepted e = run-kept K n (run-accepted s e .1)
         by-answer (Refused number place) e = K
     call-kept {s} {l} K (mend w k) = by-answer (mendAnswer s k)
       where

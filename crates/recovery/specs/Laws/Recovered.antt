@@ -45,7 +45,7 @@ further s r c i = (
     f = step (digraph s) (failure s) i (s .flood)
 
     by-answer : (a : Answer) → deliverAnswer s i ≡ a → accepted (deliveryAs a s i f .answer) ≡ true → UnderWay s i
-    by-answer Accepted e t = accepts-says (digraph s) i (s .flood) .0 (deliver-accepted s i e .1)
+    by-answer Accepted e t = accepts-says (digraph s) i (s .flood) .0 (deliver-accepted s i e .3)
     by-answer (Refused number place) e t = clash t refl
 
 module _ (m : Mesh) (good : planned m .answer ≡ Accepted) where

@@ -109,11 +109,11 @@ module _ (s : Session) (r : recordAnswer s ≡ Accepted) where
 
     -- where a call accepts, it makes what the rules make
     pub made-seen : (c : Call) → answerOf c s ≡ Accepted → seen (made c s) ≡ effect g c (s .cut) (seen s)
-    made-seen (cut w k) e = begin-ruled g head< k (s .cut) (s .flood) room (cut-accepted s k e .0)
-    made-seen (deliver w k) e = let (c, a) = deliver-accepted s k e in deliver-ruled-by w k (s .cut) c a
-    made-seen (run n) e = run-ruled-by n (s .cut) (run-accepted s e) .0
+    made-seen (cut w k) e = begin-ruled g head< k (s .cut) (s .flood) room (cut-accepted s k e .1)
+    made-seen (deliver w k) e = let (r, b, c, a) = deliver-accepted s k e in deliver-ruled-by w k (s .cut) c a
+    made-seen (run n) e = run-ruled-by n (s .cut) (run-accepted s e .1) .0
     made-seen (mend w k) e = fresh-seen (s .mesh) (s .plan)
     made-seen (status k) e = refl
 
     pub run-made : (n : ℕ) → runAnswer s ≡ Accepted → machine.run g (failure s) n (s .flood) .made ≡ runMade g (s .cut) n (seen s)
-    run-made n e = run-ruled-by n (s .cut) (run-accepted s e) .1
+    run-made n e = run-ruled-by n (s .cut) (run-accepted s e .1) .1

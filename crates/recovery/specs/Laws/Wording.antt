@@ -101,7 +101,7 @@ module _ (s : Session) (c k : ℕ) (stands : s .cut ≡ Link c) (ok : deliverAns
   QuietLink = (i : ℕ) × (i < links) × (tail i ≡ b) × (i ≢ c) × (state i ≡ 0)
 
   moves : accepts g k (s .flood) ≡ true
-  moves = deliver-accepted s k ok .1
+  moves = deliver-accepted s k ok .3
 
   -- it answers by the state that the link has then
   answer-by : {v : ℕ} → at (step g x k (s .flood) .states) k ≡ v → afterDelivery s k .answer ≡ acted g k v

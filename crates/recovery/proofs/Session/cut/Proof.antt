@@ -5,7 +5,8 @@ use Rattle.flood.specs.Machine.{begin}
 use Rattle.recovery.specs.declared.Cut.the-variants.{Link}
 use Rattle.recovery.specs.Calls.{afterCut}
 use Rattle.recovery.specs.Laws.Forming.{record-mesh}
-use Rattle.recovery.specs.Laws.Calls.{cut-accepted, change-stops, change-goes}
+use Rattle.recovery.specs.Laws.Tested.{cut-accepted}
+use Rattle.recovery.specs.Laws.Calls.{change-stops, change-goes}
 use Rattle.recovery.proofs.Session.cut.Statement.{statement}
 use Rattle.recovery.proofs.Session.cut.Tie as tie
 
@@ -26,7 +27,7 @@ topology-requires : tie.Need-topology-requires
 topology-requires c κs =
     let d = c .before .before .before in
     let a = d .before .before .before .args in
-    let (r, below) = cut-accepted (a .self) (a .link) (sym (d .before .before .cut-answer .ensures) ∙ d .enum-told .given .1) in
+    let (r, below, free) = cut-accepted (a .self) (a .link) (sym (d .before .before .cut-answer .ensures) ∙ d .enum-told .given .1) in
     (record-mesh (a .self) r, below)
 
 begin-requires : tie.Need-begin-requires

@@ -5,7 +5,8 @@ use borrow.Author.Needs.{needs}
 use Rattle.mesh.specs.declared.Answer.the-variants.{Accepted}
 use Rattle.recovery.specs.Calls.{runAnswer, routed}
 use Rattle.recovery.specs.Laws.Forming.{record-few}
-use Rattle.recovery.specs.Laws.Calls.{run-accepted, standing-link, standing-failure, routed-stops, routed-goes, route-busy, route-made}
+use Rattle.recovery.specs.Laws.Tested.{run-accepted}
+use Rattle.recovery.specs.Laws.Calls.{standing-link, standing-failure, routed-stops, routed-goes, route-busy, route-made}
 use Rattle.recovery.proofs.Session.route.Statement.{statement}
 use Rattle.recovery.proofs.Session.route.Tie as tie
 

@@ -3,7 +3,8 @@ use mathlib.Core.Path.{_≡_, sym, _∙_}
 use borrow.Author.Needs.{needs}
 use Rattle.mesh.specs.declared.Answer.the-variants.{Accepted}
 use Rattle.recovery.specs.Calls.{runAnswer, afterRun}
-use Rattle.recovery.specs.Laws.Calls.{run-accepted, standing-link, standing-failure, run-stops, run-made}
+use Rattle.recovery.specs.Laws.Tested.{run-accepted}
+use Rattle.recovery.specs.Laws.Calls.{standing-link, standing-failure, run-stops, run-made}
 use Rattle.recovery.proofs.Session.run.Statement.{statement}
 use Rattle.recovery.proofs.Session.run.Tie as tie
 

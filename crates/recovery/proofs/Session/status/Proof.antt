@@ -6,7 +6,8 @@ use borrow.Author.Needs.{needs}
 use Rattle.mesh.specs.declared.Answer.the-variants.{Accepted}
 use Rattle.recovery.specs.Calls.{statusAnswer, statusOf}
 use Rattle.recovery.specs.Laws.Forming.{record-few}
-use Rattle.recovery.specs.Laws.Calls.{status-accepted, status-stops, status-made}
+use Rattle.recovery.specs.Laws.Tested.{status-accepted}
+use Rattle.recovery.specs.Laws.Calls.{status-stops, status-made}
 use Rattle.recovery.proofs.Session.status.Statement.{statement}
 use Rattle.recovery.proofs.Session.status.Tie as tie
 

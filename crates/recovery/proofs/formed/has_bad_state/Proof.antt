@@ -4,8 +4,7 @@ use mathlib.Core.Path.{_≡_, refl}
 use native.Mathlib.Omega.{arith}
 use borrow.Author.Needs.{needs}
 use Rattle.scan.specs.Entry.{at}
-use Rattle.scan.specs.Lowest.{any}
-use Rattle.flood.specs.Laws.Loops.{any-zero, any-turn}
+use Rattle.scan.specs.Lowest.{any, any-zero, any-turn}
 use Rattle.recovery.specs.Formed.{isOver, overflows}
 use Rattle.recovery.proofs.formed.has_bad_state.Statement.{statement}
 use Rattle.recovery.proofs.formed.has_bad_state.Tie as tie

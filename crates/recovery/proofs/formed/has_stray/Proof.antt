@@ -4,8 +4,7 @@ use mathlib.Core.Path.{_≡_, refl}
 use native.Mathlib.Omega.{arith}
 use borrow.Author.Needs.{needs}
 use Rattle.scan.specs.Entry.{has}
-use Rattle.scan.specs.Lowest.{any}
-use Rattle.flood.specs.Laws.Loops.{any-zero, any-turn}
+use Rattle.scan.specs.Lowest.{any, any-zero, any-turn}
 use Rattle.recovery.specs.Formed.{isStray, strays}
 use Rattle.recovery.proofs.formed.has_stray.Statement.{statement}
 use Rattle.recovery.proofs.formed.has_stray.Tie as tie
