@@ -26,7 +26,6 @@ use Rattle.recovery.specs.declared.Change.{Change}
 use Rattle.recovery.specs.declared.Delivered.{Delivered}
 use Rattle.recovery.specs.declared.Delivered.the-variants as delivered
 use Rattle.recovery.specs.declared.Delivery.{Delivery}
-use Rattle.recovery.specs.declared.Report.{Report}
 use Rattle.recovery.specs.declared.Report.the-variants as report
 use Rattle.recovery.specs.declared.Run.{Run}
 use Rattle.recovery.specs.declared.Status.{Status}

@@ -1,6 +1,6 @@
 -- 01's rules of the recovery machine by themselves: what a list of calls makes of the cut, the states and the reached nodes, and what each
 -- call answers. They know the back-up digraph and no stored record. Read beside 01, "The recovery machine". Definitions only.
-use Prim.Native.Nat.{ℕ, zero, suc, _+_}
+use Prim.Native.Nat.{ℕ, zero, suc}
 use mathlib.Core.Bool.{Bool, true, false, cond, not, _&&_, _||_}
 use mathlib.Core.List.{List, [], _∷_}
 use lib.Dec.{eqb, ltb}

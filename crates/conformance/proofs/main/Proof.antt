@@ -1,6 +1,5 @@
 -- `conformance::main` is safe and ends: the number of cases left falls.
 use borrow.Author.Needs.{needs}
-use native.Mathlib.Omega.{arith}
 use Prim.Native.Nat.{_-_, _≤_}
 use Rattle.conformance.proofs.main.Statement.{statement}
 use Rattle.conformance.proofs.main.Tie as tie

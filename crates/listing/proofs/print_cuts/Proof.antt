@@ -1,6 +1,5 @@
 -- `listing::print_cuts` is safe and ends.
 use borrow.Author.Needs.{needs}
-use native.Mathlib.Omega.{arith}
 use Prim.Native.Nat.{_-_, _≤_}
 use Rattle.listing.proofs.print_cuts.Statement.{statement}
 use Rattle.listing.proofs.print_cuts.Tie as tie

@@ -1,6 +1,5 @@
 -- `bench::job::encode_often` is safe and ends.
 use borrow.Author.Needs.{needs}
-use native.Mathlib.Omega.{arith}
 use Prim.Native.Nat.{_-_, _≤_}
 use mathlib.Core.Path.{_≡_}
 use Rattle.bench.proofs.job.encode_often.Statement.{statement}

@@ -1,6 +1,5 @@
 -- `bench::job::plan_often` is safe and ends.
 use borrow.Author.Needs.{needs}
-use native.Mathlib.Omega.{arith}
 use Prim.Native.Nat.{_+_, _-_, _≤_}
 use Rattle.bench.proofs.job.plan_often.Statement.{statement}
 use Rattle.bench.proofs.job.plan_often.Tie as tie

@@ -1,6 +1,5 @@
 -- `bench::job::print_directions` is safe and ends.
 use borrow.Author.Needs.{needs}
-use native.Mathlib.Omega.{arith}
 use Prim.Native.Nat.{_-_, _≤_}
 use Rattle.bench.proofs.job.print_directions.Statement.{statement}
 use Rattle.bench.proofs.job.print_directions.Tie as tie

@@ -1,6 +1,5 @@
 -- `bench::sessions::lowest_under_way` is safe and ends.
 use borrow.Author.Needs.{needs}
-use native.Mathlib.Omega.{arith}
 use Prim.Native.Nat.{_-_, _≤_}
 use Rattle.bench.proofs.sessions.lowest_under_way.Statement.{statement}
 use Rattle.bench.proofs.sessions.lowest_under_way.Tie as tie

@@ -1,6 +1,5 @@
 -- `conformance::book::filled_rest` is safe and ends: the sum is at most the number of entries passed.
 use borrow.Author.Needs.{needs}
-use native.Mathlib.Omega.{arith}
 use Prim.Native.Nat.{_-_, _≤_}
 use Rattle.conformance.proofs.book.filled_rest.Statement.{statement}
 use Rattle.conformance.proofs.book.filled_rest.Tie as tie

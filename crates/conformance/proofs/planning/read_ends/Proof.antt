@@ -1,6 +1,5 @@
 -- `conformance::planning::read_ends` is safe and ends.
 use borrow.Author.Needs.{needs}
-use native.Mathlib.Omega.{arith}
 use Prim.Native.Nat.{_-_, _≤_}
 use Rattle.conformance.proofs.planning.read_ends.Statement.{statement}
 use Rattle.conformance.proofs.planning.read_ends.Tie as tie

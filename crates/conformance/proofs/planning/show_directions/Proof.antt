@@ -1,6 +1,5 @@
 -- `conformance::planning::show_directions` is safe and ends: the sum is at most the number of entries passed.
 use borrow.Author.Needs.{needs}
-use native.Mathlib.Omega.{arith}
 use Prim.Native.Nat.{_-_, _≤_}
 use Rattle.conformance.proofs.planning.show_directions.Statement.{statement}
 use Rattle.conformance.proofs.planning.show_directions.Tie as tie

@@ -1,6 +1,5 @@
 -- `conformance::print::hex` is safe and ends.
 use borrow.Author.Needs.{needs}
-use native.Mathlib.Omega.{arith}
 use Prim.Native.Nat.{_-_, _≤_}
 use lib.ListN.{length}
 use Rattle.conformance.proofs.print.hex.Statement.{statement}

@@ -1,6 +1,5 @@
 -- `conformance::record::read_entries` is safe and ends.
 use borrow.Author.Needs.{needs}
-use native.Mathlib.Omega.{arith}
 use Prim.Native.Nat.{_-_, _≤_}
 use Rattle.conformance.proofs.record.read_entries.Statement.{statement}
 use Rattle.conformance.proofs.record.read_entries.Tie as tie

@@ -1,6 +1,5 @@
 -- `conformance::script::run_calls` is safe and ends.
 use borrow.Author.Needs.{needs}
-use native.Mathlib.Omega.{arith}
 use Prim.Native.Nat.{_-_, _≤_}
 use Rattle.conformance.proofs.script.run_calls.Statement.{statement}
 use Rattle.conformance.proofs.script.run_calls.Tie as tie

@@ -1,6 +1,5 @@
 -- `conformance::session::read_links` is safe and ends.
 use borrow.Author.Needs.{needs}
-use native.Mathlib.Omega.{arith}
 use Prim.Native.Nat.{_-_, _≤_}
 use Rattle.conformance.proofs.session.read_links.Statement.{statement}
 use Rattle.conformance.proofs.session.read_links.Tie as tie

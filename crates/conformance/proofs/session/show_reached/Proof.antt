@@ -1,6 +1,5 @@
 -- `conformance::session::show_reached` is safe and ends.
 use borrow.Author.Needs.{needs}
-use native.Mathlib.Omega.{arith}
 use Prim.Native.Nat.{_-_, _≤_}
 use Rattle.conformance.proofs.session.show_reached.Statement.{statement}
 use Rattle.conformance.proofs.session.show_reached.Tie as tie

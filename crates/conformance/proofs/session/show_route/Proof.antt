@@ -1,6 +1,5 @@
 -- `conformance::session::show_route` is safe and ends.
 use borrow.Author.Needs.{needs}
-use native.Mathlib.Omega.{arith}
 use Prim.Native.Nat.{_-_, _≤_}
 use Rattle.conformance.proofs.session.show_route.Statement.{statement}
 use Rattle.conformance.proofs.session.show_route.Tie as tie
