@@ -6,3 +6,4 @@ pub mod Written
 pub mod Read
 pub mod Writing
 pub mod Needless
+pub mod Prefix

@@ -5,6 +5,7 @@ use mathlib.Core.Path.{_≡_}
 use mathlib.Core.Bool.{true}
 use mathlib.Core.Logic.{_⊎_, _↔_}
 use mathlib.Core.List.{List, _++_, List·Memᴰ}
+use native.Mathlib.Omega.{arith}
 use lib.ListN.{length, take, drop}
 use Rattle.scan.specs.Bytes.{AreBytes}
 use Rattle.mesh.specs.declared.Mesh.{Mesh}
@@ -17,6 +18,7 @@ use Rattle.mesh.specs.Laws.Refused.{refused-only}
 use Rattle.codec.specs.Book.{bookOf, encoded, outputAfter, decoded}
 use Rattle.codec.specs.Laws.Written.{decoded-output, book-most}
 use Rattle.codec.specs.Laws.Read.{decoded-accepted, decoded-in-range, output-decoded, one-book, accepted-most}
+use Rattle.codec.specs.Laws.Prefix.{decoded-take}
 use Rattle.graph.specs.Net.{Parted, bothWays, without, First}
 use Rattle.graph.specs.Laws.First.{first-unique}
 use Rattle.planner.specs.Plan.{netOf, planned}
@@ -79,6 +81,11 @@ book-length = book-most
 
 pub accepted-length : (s : List ℕ) → AreBytes s → decoded s .answer ≡ Accepted → length s ≤ 2308
 accepted-length = accepted-most
+
+-- what stands past the first 4,096 bytes of an input changes nothing: a longer input is refused (`accepted-length`), with the same number at the same
+-- place
+pub long-input : (s : List ℕ) → decoded (take 4096 s) ≡ decoded s
+long-input s = decoded-take 4096 s (omega arith)
 
 -- ---- demand 3, first sentence, and demand 2's plan (contract: crates/planner/src/lib.rt, `plan`)
 

@@ -5,7 +5,7 @@ use mathlib.Core.List.{List, [], _∷_, _++_}
 use native.Mathlib.Nat.{pow-suc}
 use native.Mathlib.Numerals.{add-one}
 use native.Mathlib.Omega.{arith}
-use lib.ListN.{length, getD, take, drop}
+use lib.ListN.{length, getD, take, drop, List·getD-append}
 use lib.Seq.{drop-drop, drop-cons, getD-drop}
 use Rattle.scan.specs.Part.{front}
 
@@ -53,6 +53,11 @@ bytes-number (suc w) s at small h =
 
 pub bytes-drop : (s : List ℕ) (k : ℕ) → AreBytes s → AreBytes (drop k s)
 bytes-drop s k small i = rw (getD-drop k s i 0) (small (k + i))
+
+-- a number is in its own bytes alone
+pub number-append : (w : ℕ) (s more : List ℕ) (at : ℕ) → at + w ≤ length s → number w (s ++ more) at ≡ number w s at
+number-append zero s more at h = refl
+number-append (suc w) s more at h = rw (List·getD-append s more 0 at (omega arith), number-append w s more (at + 1) (omega arith))
 
 -- the bytes from byte i on, of which x is what is left of the number: one byte more, and the end
 pub bytes-next : (w i x : ℕ) → i < w → bytes (w - i) x ≡ x % 256 ∷ bytes (w - (i + 1)) (x / 256)

@@ -63,11 +63,21 @@ extent-most : (ws : List ℕ) (b : ℕ) → extent ws b ≤ sum ws
 extent-most [] b = omega arith
 extent-most (w ∷ ws) b = omega (arith, chosen-most (odd b) w, extent-most ws (b / 2))
 
+-- field i, after those before it whose bits stand, ends within the bytes of all
+field-most : (ws : List ℕ) (i b : ℕ) → extent (take i ws) b + getD ws i 0 ≤ sum ws
+field-most [] zero b = omega arith
+field-most [] (suc i) b = omega arith
+field-most (w ∷ ws) zero b = omega arith
+field-most (w ∷ ws) (suc i) b = omega (arith, chosen-most (odd b) w, field-most ws i (b / 2))
+
 -- ---- the length of a record
 
 pub recordLength-most : (b : ℕ) → recordLength b ≤ 9
 unfolding recordLength
 recordLength-most b = branch (λ (v : ℕ). v ≤ 9) (reserved b) (λ e. omega arith) (λ e. omega (arith, extent-most widths b))
+
+pub field-within : (i b : ℕ) → 1 + extent (take i widths) b + getD widths i 0 ≤ 9
+field-within i b = omega (arith, field-most widths i b)
 
 -- no bit map that is written has a reserved bit
 pub map-unreserved : (p l : Link) → reserved (bitMap (fieldsOf p l)) ≡ false
