@@ -6,6 +6,7 @@ use crate::ends_answer;
 use crate::zero_link;
 ghost use mathlib.Core.Path.{_≡_};
 ghost use Prim.Native.Nat.{_≤_};
+ghost use lib.Dec.{eqb};
 ghost use lib.ListN.{take, drop};
 ghost use Rattle.mesh.specs.Mesh.{zeroLink, linksAnswer, isZero, allZero};
 
@@ -30,12 +31,12 @@ pub(crate) fn links_answer(m: Mesh) -> Answer
     Answer::Accepted
 }
 
-// Reads the fields as one number, as they stand in memory, so that the compiler makes one test of it.
-fn is_zero(l: Link) -> bool
-    ensures { λ r. ⌜ r ≡ isZero l ⌝ }
+// The fields as one number, as they stand in memory, so that the compiler reads them at once.
+fn as_number(l: Link) -> u64
+    ensures { λ r. ⌜ eqb r 0 ≡ isZero l ⌝ }
 {
     let ends = l.low as u64 + 256 * (l.high as u64);
-    ends + 65536 * (l.length as u64) + 4294967296 * (l.pair as u64) == 0
+    ends + 65536 * (l.length as u64) + 4294967296 * (l.pair as u64)
 }
 
 // Whether each entry past the last link is zero. No branch in the loop, so that the compiler can test several entries at once.
@@ -43,12 +44,12 @@ pub(crate) fn rest_is_zero(m: Mesh) -> bool
     requires { ⌜ m .count ≤ 256 ⌝ }
     ensures { λ r. ⌜ r ≡ allZero (drop (m .count) (m .links)) ⌝ }
 {
-    let mut clear = true;
+    let mut bits: u64 = 0;
     let mut i = m.count as usize;
     while i < 256 {
         let l = m.links[i];
-        clear = clear & is_zero(l);
+        bits = bits | as_number(l);
         i += 1;
     }
-    clear
+    bits == 0
 }

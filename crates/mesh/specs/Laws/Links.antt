@@ -4,8 +4,12 @@ use mathlib.Core.Path.{_≡_, refl, _∙_}
 use mathlib.Core.Bool.{Bool, true, false, _&&_}
 use mathlib.Core.List.{List}
 use native.Mathlib.Numerals.{add-one}
+use native.Mathlib.Omega.{arith}
+use lib.Bits.{bitOr, or-add-and, and-le-l, and-le-r}
+use lib.Dec.{eqb}
 use lib.ListN.{length, getD, take, drop, drop-of-length-le}
 use lib.Seq.{drop-cons}
+use Rattle.scan.specs.Test.{Says, eq-says, and-says, says-same}
 use Rattle.scan.specs.Part.{drop-take, drop-take-end}
 use Rattle.mesh.specs.declared.Link.{Link}
 use Rattle.mesh.specs.declared.Answer.the-variants.{Accepted, Refused}
@@ -47,3 +51,15 @@ module _ (links : List Link) (i : ℕ) where
   unfolding allZero
   zero-end true h = rw (drop-of-length-le links h)
   zero-end false h = refl
+
+-- the bits of two numbers together are 0 just where both numbers are
+pub or-zero : (x y : ℕ) → eqb (bitOr x y) 0 ≡ (eqb x 0 && eqb y 0)
+or-zero x y = says-same (eq-says _ 0) both
+  where
+    both : Says (eqb x 0 && eqb y 0) (bitOr x y ≡ 0)
+    both =
+        let sum = or-add-and x y in
+        let left = and-le-l x y in
+        let right = and-le-r x y in
+        let zeros = and-says (eq-says x 0) (eq-says y 0) in
+        (λ t. let (a, b) = zeros .0 t in omega arith, λ e. zeros .1 (omega arith, omega arith))
