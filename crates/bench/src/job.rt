@@ -80,7 +80,23 @@ fn encode_job(m: Mesh, repeats: u32) {
     let mut out = [0u8; 2400];
     let length = encode_often(m, &mut out, repeats);
     io::write_all(STDOUT_FILENO, b"E ");
-    io::print_decimal(STDOUT_FILENO, length as u64);
+    io::print_decimal(STDOUT_FILENO, read_back(&out, length) as u64);
+}
+
+// The length of the book that was written, 0 if it cannot be read. Makes use of the output, so that no compiler can take the writing out.
+fn read_back(out: &[u8], length: usize) -> usize {
+    if out.len() < length {
+        return 0;
+    }
+    let d = codec::decode(&out[..length]);
+    let a = d.answer;
+    match a {
+        Answer::Accepted => length,
+        Answer::Refused {
+            number: _,
+            place: _,
+        } => 0,
+    }
 }
 
 fn encode_often(m: Mesh, out: &mut [u8], repeats: u32) -> usize {

@@ -6,6 +6,7 @@ use mesh::Mesh;
 use recovery::Change;
 use recovery::Delivered;
 use recovery::Report;
+use recovery::Run;
 use recovery::Session;
 use recovery::Status;
 
@@ -41,21 +42,33 @@ pub(crate) fn run_job(m: Mesh, repeats: u32) {
         return;
     };
     let s = c.session;
-    io::print_decimal(STDOUT_FILENO, run_often(s, repeats) as u64);
+    let r = run_often(s, repeats);
+    io::print_decimal(STDOUT_FILENO, made_by(r) as u64);
 }
 
-fn run_often(s: Session, repeats: u32) -> u32 {
-    let mut made: u32 = 0;
-    let mut i: u32 = 0;
+fn run_often(s: Session, repeats: u32) -> Run {
+    let mut r = s.run(UNHINDERED);
+    let mut i: u32 = 1;
     while i < repeats {
-        made = run_once(s);
+        r = s.run(UNHINDERED);
         i += 1;
     }
-    made
+    r
 }
 
-fn run_once(s: Session) -> u32 {
-    let r = s.run(UNHINDERED);
+// How many deliveries the run made, 0 if it was refused or left a session that refuses a status. Makes use of the session, so that no compiler
+// can take it out.
+fn made_by(r: Run) -> u32 {
+    let after = r.session;
+    let t = after.status(0);
+    let Status::Link {
+        state: _,
+        under_way: _,
+        route: _,
+    } = t
+    else {
+        return 0;
+    };
     let report = r.report;
     match report {
         Report::Made { count, rest: _ } => count,

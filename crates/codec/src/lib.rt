@@ -15,6 +15,9 @@ mod writer;
 use mesh::Answer;
 use mesh::Mesh;
 
+// The length of the longest book: an output of this length has room for any.
+const MOST_BYTES: usize = 2308;
+
 // What reading gives: the mesh, all zero on a refusal.
 pub struct Decoded {
     pub mesh: Mesh,
@@ -57,18 +60,20 @@ pub fn encode(m: Mesh, out: &mut [u8]) -> Encoded
             answer: a,
         };
     };
-    let length = writer::book_length(m);
-    if out.len() < length {
-        let short = Answer::Refused {
-            number: 11,
-            place: length,
-        };
-        return Encoded {
-            length: 0,
-            answer: short,
-        };
+    if out.len() < MOST_BYTES {
+        let length = writer::book_length(m);
+        if out.len() < length {
+            let short = Answer::Refused {
+                number: 11,
+                place: length,
+            };
+            return Encoded {
+                length: 0,
+                answer: short,
+            };
+        }
     }
-    writer::put_book(out, m);
+    let length = writer::put_book(out, m);
     let done = Answer::Accepted;
     Encoded {
         length,

@@ -30,11 +30,12 @@ pub(crate) fn book_length(m: Mesh) -> usize
     n
 }
 
-// Stores the records of m's links from the fifth byte on, each at the front of the unfilled tail.
-fn put_records(out: &mut [u8], m: Mesh)
+// Stores the records of m's links from the fifth byte on, each at the front of the unfilled tail, and answers where they end.
+fn put_records(out: &mut [u8], m: Mesh) -> usize
     requires { ⌜ m .count ≤ 256 ⌝ }
     requires { ⌜ 4 + length (recordsOf zeroLink (take (m .count) (m .links))) ≤ length (now out) ⌝ }
-    ensures { λ _. ⌜ now (out .exit) ≡ sets (now (out .entry)) 4 (recordsOf zeroLink (take (m .count) (m .links))) ⌝ }
+    ensures end { λ r. ⌜ r ≡ 4 + length (recordsOf zeroLink (take (m .count) (m .links))) ⌝ }
+    ensures stored { λ _. ⌜ now (out .exit) ≡ sets (now (out .entry)) 4 (recordsOf zeroLink (take (m .count) (m .links))) ⌝ }
 {
     let k = m.count as usize;
     let mut prev = zero_link();
@@ -46,16 +47,18 @@ fn put_records(out: &mut [u8], m: Mesh)
         prev = l;
         i += 1;
     }
+    at
 }
 
-// Stores the book of m at the front of out.
-pub(crate) fn put_book(out: &mut [u8], m: Mesh)
+// Stores the book of m at the front of out, and answers its length.
+pub(crate) fn put_book(out: &mut [u8], m: Mesh) -> usize
     requires { ⌜ m .count ≤ 256 ⌝ }
     requires { ⌜ length (bookOf m) ≤ length (now out) ⌝ }
-    ensures { λ _. ⌜ now (out .exit) ≡ sets (now (out .entry)) 0 (bookOf m) ⌝ }
+    ensures length { λ r. ⌜ r ≡ length (bookOf m) ⌝ }
+    ensures stored { λ _. ⌜ now (out .exit) ≡ sets (now (out .entry)) 0 (bookOf m) ⌝ }
 {
     out[0] = VERSION;
     out[1] = m.nodes;
     let at = put_bytes(out, 2, 2, m.count as u32);
-    put_records(out, m);
+    put_records(out, m)
 }

@@ -6,6 +6,7 @@ ghost use lib.ListN.{length};
 ghost use Rattle.scan.specs.Entry.{at};
 ghost use Rattle.scan.specs.Total.{count};
 ghost use Rattle.flood.specs.Lent.{busy};
+use crate::is_under_way;
 use crate::state;
 
 // Links under way.
@@ -16,7 +17,7 @@ pub(crate) fn under_way(states: &[u8], links: usize) -> u16
     let mut n: u16 = 0;
     let mut i: usize = 0;
     while i < links {
-        if state::is_under_way(states[i]) {
+        if is_under_way(states[i]) {
             n += 1;
         }
         i += 1;

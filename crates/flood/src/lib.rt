@@ -110,6 +110,16 @@ pub fn run(t: Topology, allowance: u32, f: Flood) -> Ran
     }
 }
 
+// Whether a link in state v is under way: offered or refused.
+pub fn is_under_way(v: u8) -> bool
+    ensures { λ r. ⌜ r ≡ Machine.underWay v ⌝ }
+{
+    match v {
+        1 | 3 => true,
+        0 | 2 | 4..=255 => false,
+    }
+}
+
 // How many of the first `count` links are under way.
 pub fn under_way(count: u16, states: [u8; 256]) -> u16
     ensures { λ r. ⌜ r ≡ underWayOf count states ⌝ }

@@ -4,6 +4,7 @@ ghost use Prim.Native.Nat.{_+_, _≤_, min};
 ghost use lib.ListN.{length};
 ghost use Rattle.scan.specs.Lowest.{lowest, any};
 ghost use Rattle.flood.specs.Lent.{held, taken, busy, Passed, Stopped};
+use crate::is_under_way;
 use crate::state;
 
 // How many links a block has.
@@ -119,7 +120,7 @@ fn busy_within(states: &[u8], from: usize) -> bool
     let mut found = false;
     let mut j: usize = 0;
     while j < BLOCK {
-        found = state::either(found, state::is_under_way(states[from + j]));
+        found = state::either(found, is_under_way(states[from + j]));
         j += 1;
     }
     found
@@ -147,7 +148,7 @@ pub(crate) fn lowest_busy(states: &[u8], links: usize, from: usize) -> usize
 {
     let mut i = skip_idle(states, links, from);
     while i < links {
-        if state::is_under_way(states[i]) {
+        if is_under_way(states[i]) {
             return i;
         }
         i += 1;

@@ -2,7 +2,7 @@
 ghost use mathlib.Core.Path.{_≡_};
 ghost use mathlib.Core.Bool.{_&&_, _||_};
 ghost use lib.Dec.{eqb};
-ghost use Rattle.flood.specs.Machine.{underWay, live};
+ghost use Rattle.flood.specs.Machine.{live};
 
 pub(crate) fn is_quiet(v: u8) -> bool
     ensures { λ r. ⌜ r ≡ eqb v 0 ⌝ }
@@ -19,16 +19,6 @@ pub(crate) fn is_taken(v: u8) -> bool
     match v {
         2 => true,
         0 | 1 | 3..=255 => false,
-    }
-}
-
-// Offered or refused.
-pub(crate) fn is_under_way(v: u8) -> bool
-    ensures { λ r. ⌜ r ≡ underWay v ⌝ }
-{
-    match v {
-        1 | 3 => true,
-        0 | 2 | 4..=255 => false,
     }
 }
 

@@ -1,5 +1,5 @@
 -- What the arrays that the code takes out of a session hold. Definitions only.
-use Prim.Native.Nat.{ℕ}
+use Prim.Native.Nat.{ℕ, _<_, _≤_}
 use mathlib.Core.Path.{_≡_}
 use mathlib.Core.Bool.{cond}
 use mathlib.Core.List.{List, []}
@@ -46,3 +46,8 @@ actedBy a b v = cond (eqb v 2) (delivered.Taken b) (cond (eqb v 3) (delivered.Tu
 abbrev pub lengthBy : ℕ → Cut → List ℕ → ℕ → ℕ
 lengthBy links (cuts.Link k) states busy = cond (eqb busy 0) (takenOf links states) 0
 lengthBy links cuts.Nothing states busy = 0
+
+-- of 256 entries v is the largest from `first` on and below i: none of them is above v, and one from `first` on is v unless v is 0
+pub record Largest (entries : List ℕ) (first i v : ℕ) : Type 0 where
+  pub bound : (j : ℕ) → first ≤ j → j < i → at entries j ≤ v
+  pub held : 0 < v → (j : ℕ) × (first ≤ j) × (j < 256) × (at entries j ≡ v)

@@ -3,6 +3,7 @@ pub mod Backup
 pub mod Calls
 pub mod Forming
 pub mod Kept
+pub mod Largest
 pub mod Recovered
 pub mod Refused
 pub mod Routed

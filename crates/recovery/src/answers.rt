@@ -5,7 +5,6 @@ use crate::formed::record_answer;
 use mesh::Answer;
 ghost use mathlib.Core.Path.{_≡_};
 ghost use Prim.Native.Nat.{_≤_};
-ghost use Rattle.flood.specs.Machine.{underWay};
 ghost use Rattle.recovery.specs.Calls.{isCut, standing, resting, cutAnswer, deliverAnswer, runAnswer, mendAnswer, statusAnswer};
 
 fn refused(number: u8, place: u16) -> Answer
@@ -34,16 +33,6 @@ fn is_cut(cut: Cut, k: u16) -> bool
     match cut {
         Cut::Link(c) => c == k,
         Cut::Nothing => false,
-    }
-}
-
-// Whether a link in state v is under way.
-pub(crate) fn is_under_way(v: u8) -> bool
-    ensures { λ r. ⌜ r ≡ underWay v ⌝ }
-{
-    match v {
-        1 | 3 => true,
-        0 | 2 | 4..=255 => false,
     }
 }
 
@@ -95,7 +84,7 @@ pub(crate) fn deliver_answer(s: Session, link: u16) -> Answer
     }
     let flood = s.flood;
     let states = flood.states;
-    if is_under_way(states[link as usize]) {
+    if flood::is_under_way(states[link as usize]) {
         return Answer::Accepted;
     }
     refused(24, link)

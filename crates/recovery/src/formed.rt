@@ -5,74 +5,59 @@ use mesh::Answer;
 use mesh::Mesh;
 use mesh::Plan;
 ghost use mathlib.Core.Path.{_≡_};
-ghost use Rattle.recovery.specs.Formed.{isOver, overflows, isStray, strays, misplaced, startAnswer, recordAnswer};
+ghost use Prim.Native.Nat.{max};
+ghost use Rattle.recovery.specs.Formed.{overflows, strays, misplaced, startAnswer, recordAnswer};
+ghost use Rattle.recovery.specs.Arrays.{Largest};
 
-// Whether direction v of entry i is above 1, or past the last link and not zero.
-fn is_bad_direction(links: u16, i: usize, v: u8) -> bool
-    ensures { λ r. ⌜ r ≡ isOver links 1 i v ⌝ }
+fn larger(a: u8, b: u8) -> u8
+    ensures { λ r. ⌜ r ≡ max a b ⌝ }
 {
-    if i < links as usize {
-        match v {
-            0..=1 => false,
-            2..=255 => true,
-        }
-    } else {
-        v != 0
-    }
+    if a < b { b } else { a }
 }
 
+// The largest entry from `first` on, 0 where there is none.
+fn largest_from(first: usize, entries: &[u8; 256]) -> u8
+    ensures { λ r. ⌜ Largest (now (entries .entry)) first 256 r ⌝ }
+{
+    let mut most: u8 = 0;
+    let mut i = first;
+    while i < 256 {
+        most = larger(most, entries[i]);
+        i += 1;
+    }
+    most
+}
+
+// Whether a direction is above 1, or an entry past the last link not zero.
 fn has_bad_direction(links: u16, directions: &[u8; 256]) -> bool
     ensures { λ r. ⌜ r ≡ overflows links 1 (now (directions .entry)) ⌝ }
 {
-    let mut bad = false;
-    let mut i: usize = 0;
-    while i < 256 {
-        bad = bad | is_bad_direction(links, i, directions[i]);
-        i += 1;
-    }
-    bad
-}
-
-// Whether state v of entry i is above 4, or past the last link and not zero.
-fn is_bad_state(links: u16, i: usize, v: u8) -> bool
-    ensures { λ r. ⌜ r ≡ isOver links 4 i v ⌝ }
-{
-    if i < links as usize {
-        match v {
-            0..=4 => false,
-            5..=255 => true,
-        }
-    } else {
-        v != 0
+    let d = largest_from(0, directions);
+    match d {
+        0..=1 => largest_from(links as usize, directions) != 0,
+        2..=255 => true,
     }
 }
 
+// Whether a state is above 4, or an entry past the last link not zero.
 fn has_bad_state(links: u16, states: &[u8; 256]) -> bool
     ensures { λ r. ⌜ r ≡ overflows links 4 (now (states .entry)) ⌝ }
 {
-    let mut bad = false;
-    let mut i: usize = 0;
-    while i < 256 {
-        bad = bad | is_bad_state(links, i, states[i]);
-        i += 1;
+    let v = largest_from(0, states);
+    match v {
+        0..=4 => largest_from(links as usize, states) != 0,
+        5..=255 => true,
     }
-    bad
 }
 
-// Whether node v is reached, as r says, and not below N.
-fn is_stray(nodes: u8, v: usize, r: bool) -> bool
-    ensures { λ t. ⌜ t ≡ isStray nodes v r ⌝ }
-{
-    if nodes as usize <= v { r } else { false }
-}
-
+// Whether a node not below N is reached.
 fn has_stray(nodes: u8, reached: &[bool; 64]) -> bool
     ensures { λ r. ⌜ r ≡ strays nodes (now (reached .entry)) ⌝ }
 {
     let mut bad = false;
-    let mut v: usize = 0;
+    let mut v = nodes as usize;
     while v < 64 {
-        bad = bad | is_stray(nodes, v, reached[v]);
+        bad = bad | reached[v];
         v += 1;
     }
     bad

@@ -5,6 +5,7 @@ use mesh::Mesh;
 use mesh::Plan;
 ghost use mathlib.Core.Path.{_≡_};
 ghost use Prim.Native.Nat.{_<_};
+ghost use lib.ListN.{replicate};
 ghost use Rattle.mesh.specs.declared.Answer.the-variants.{Accepted};
 ghost use Rattle.mesh.specs.Mesh.{meshAnswer};
 ghost use Rattle.mesh.specs.Arc.{tailOf, headOf};
@@ -28,28 +29,20 @@ fn head_of(link: Link, direction: u8) -> u8
     if direction == 0 { link.low } else { link.high }
 }
 
-fn tails_of(mesh: Mesh, directions: &[u8; 256]) -> [u8; 256]
-    ensures { λ r. ⌜ Tails mesh (now (directions .entry)) r ⌝ }
+// Stores where each back-up arc starts and where it ends; the entries past the last link stay 0.
+fn fill_ends(mesh: Mesh, directions: &[u8; 256], tails: &mut [u8; 256], heads: &mut [u8; 256])
+    requires { ⌜ (meshAnswer mesh ≡ Accepted) × (now tails ≡ replicate 256 0) × (now heads ≡ replicate 256 0) ⌝ }
+    ensures tails { λ _. ⌜ Tails mesh (now (directions .entry)) (now (tails .exit)) ⌝ }
+    ensures heads { λ _. ⌜ Heads mesh (now (directions .entry)) (now (heads .exit)) ⌝ }
 {
-    let mut tails = [0u8; 256];
+    let count = mesh.count as usize;
     let mut i: usize = 0;
-    while i < 256 {
-        tails[i] = tail_of(mesh.links[i], directions[i]);
+    while i < count {
+        let l = mesh.links[i];
+        tails[i] = tail_of(l, directions[i]);
+        heads[i] = head_of(l, directions[i]);
         i += 1;
     }
-    tails
-}
-
-fn heads_of(mesh: Mesh, directions: &[u8; 256]) -> [u8; 256]
-    ensures { λ r. ⌜ Heads mesh (now (directions .entry)) r ⌝ }
-{
-    let mut heads = [0u8; 256];
-    let mut i: usize = 0;
-    while i < 256 {
-        heads[i] = head_of(mesh.links[i], directions[i]);
-        i += 1;
-    }
-    heads
 }
 
 // The topology under a cut of link k.
@@ -60,8 +53,9 @@ pub(crate) fn topology(mesh: Mesh, plan: Plan, k: u16) -> Topology
     ensures failure { λ r. ⌜ failureOf r ≡ cutFailure (backup mesh plan) k ⌝ }
 {
     let directions = plan.directions;
-    let tails = tails_of(mesh, &directions);
-    let heads = heads_of(mesh, &directions);
+    let mut tails = [0u8; 256];
+    let mut heads = [0u8; 256];
+    fill_ends(mesh, &directions, &mut tails, &mut heads);
     let i = k as usize;
     let mut open = tails;
     open[i] = CLOSED;

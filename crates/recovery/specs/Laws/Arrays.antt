@@ -1,15 +1,16 @@
 -- The arrays of a topology, filled entry by entry, and counts over the states of the links. Assumes nothing.
 use Prim.Native.Nat.{ℕ, _+_, _<_, _≤_, min}
 use mathlib.Core.Path.{_≡_, refl, sym, _∙_}
+use mathlib.Core.Logic.{_≢_}
 use mathlib.Core.Bool.{cond, not, _&&_}
 use mathlib.Core.List.{List}
 use native.Mathlib.Omega.{arith}
 use native.Mathlib.Decide.{decLt}
 use lib.Dec.{eqb}
-use lib.ListN.{length, set, length-set, List·getD-eq-default}
+use lib.ListN.{length, set, replicate, length-set}
 use borrow.Author.Tests.{eq-eqb, ne-eqb}
 use Rattle.scan.specs.Test.{branch}
-use Rattle.scan.specs.Entry.{at, moved, set-at}
+use Rattle.scan.specs.Entry.{at, moved, set-at, replicate-at}
 use Rattle.scan.specs.Total.{count-any}
 use Rattle.mesh.specs.declared.Link.{Link}
 use Rattle.mesh.specs.declared.Mesh.{Mesh}
@@ -18,7 +19,7 @@ use Rattle.mesh.specs.declared.Answer.the-variants.{Accepted}
 use Rattle.mesh.specs.Mesh.{zeroLink, meshAnswer}
 use Rattle.mesh.specs.WellFormed.{link}
 use Rattle.mesh.specs.Arc.{tailOf, headOf, backTail}
-use Rattle.mesh.specs.Laws.Checked.{passes}
+use Rattle.mesh.specs.Laws.Checked.{passes, well-formed}
 use Rattle.flood.specs.declared.Topology.{Topology}
 use Rattle.flood.specs.Machine.{underWay, some, atRest, activity, takenLinks}
 use Rattle.flood.specs.Topology.{digraphOf, failureOf, underWayOf, takenOf}
@@ -33,36 +34,36 @@ min-few n h = omega arith
 
 -- ---- a loop that fills an array
 
--- of 256 entries those below i are f's
+-- of 256 entries those below i are f's, and the others are 0
 pub record Filled (f : ℕ → ℕ) (t : List ℕ) (i : ℕ) : Type 0 where
-  pub bound : i ≤ 256
   pub sized : length t ≡ 256
   pub same : (j : ℕ) → j < i → at t j ≡ f j
+  pub rest : (j : ℕ) → i ≤ j → at t j ≡ 0
 
 module _ (f : ℕ → ℕ) where
   -- before the loop
-  pub fill-none : (t : List ℕ) → length t ≡ 256 → Filled f t 0
-  fill-none t e = record { bound = omega arith; sized = e; same = λ j h. absurd (omega arith) }
+  pub fill-none : (t : List ℕ) → t ≡ replicate 256 0 → Filled f t 0
+  fill-none t e = record { sized = rw e refl; same = λ j h. absurd (omega arith); rest = λ j h. rw e (replicate-at 256 0 j) }
 
   -- the loop's store at i
   pub fill-next : (t : List ℕ) (i v : ℕ) → Filled f t i → i < 256 → v ≡ f i → Filled f (set t i v) (i + 1)
   fill-next t i v F h e = record {
-    bound = omega arith;
     sized = length-set t i v ∙ F .sized;
-    same = λ j. moved (set-at t i v (omega (arith, F .sized))) (λ j w. j < i + 1 → w ≡ f j) j (λ l. e) (λ n l. F .same j (omega arith));
+    same = λ j. changed (λ j w. j < i + 1 → w ≡ f j) j (λ l. e) (λ n l. F .same j (omega arith));
+    rest = λ j. changed (λ j w. i + 1 ≤ j → w ≡ 0) j (λ l. absurd (omega arith)) (λ n l. F .rest j (omega arith));
   }
+    where
+      changed : (P : ℕ → ℕ → Type 0) (j : ℕ) → P i v → (j ≢ i → P j (at t j)) → P j (at (set t i v) j)
+      changed = moved (set-at t i v (omega (arith, F .sized)))
 
--- after the loop, where f is 0 past the last entry
-pub fill-all : (f : ℕ → ℕ) (t : List ℕ) (i : ℕ) → Filled f t i → 256 ≤ i → ((j : ℕ) → 256 ≤ j → f j ≡ 0) → (j : ℕ) → at t j ≡ f j
-fill-all f t i F h past j = elim (decLt j 256) [
-  | yes l ↦ F .same j (omega arith)
-  | no l ↦ List·getD-eq-default t 0 (omega (arith, F .sized)) ∙ sym (past j (omega arith))
-]
+  -- after the loop, where f is 0 from n on
+  pub fill-all : (t : List ℕ) (n i : ℕ) → Filled f t i → n ≤ i → ((j : ℕ) → n ≤ j → f j ≡ 0) → (j : ℕ) → at t j ≡ f j
+  fill-all t n i F h past j = elim (decLt j i) [ yes l ↦ F .same j l | no l ↦ F .rest j (omega arith) ∙ sym (past j (omega arith)) ]
 
--- both ends of an entry past the last are 0, whatever its direction
-module _ (m : Mesh) (sized : length (m .links) ≡ 256) (directions : List ℕ) (j : ℕ) (h : 256 ≤ j) where
+-- both ends of an entry past the last link are 0, whatever its direction
+module _ (m : Mesh) (sized : length (m .links) ≡ 256) (good : meshAnswer m ≡ Accepted) (directions : List ℕ) (j : ℕ) (h : m .count ≤ j) where
   past : link m j ≡ zeroLink
-  past = List·getD-eq-default (m .links) zeroLink (omega arith)
+  past = well-formed m sized good .zeros j h
 
   zero : cond {A = ℕ} (eqb (at directions j) 0) 0 0 ≡ 0
   zero = branch (λ (v : ℕ). v ≡ 0) (eqb (at directions j) 0) (λ e. refl) (λ e. refl)

@@ -1,20 +1,23 @@
 -- `bench::sessions::run_often` is safe and ends.
 use borrow.Author.Needs.{needs}
-use Prim.Native.Nat.{_-_, _≤_}
+use Prim.Native.Nat.{_+_, _-_, _≤_}
 use Rattle.bench.proofs.sessions.run_often.Statement.{statement}
 use Rattle.bench.proofs.sessions.run_often.Tie as tie
 
 abbrev Inv-loop : tie.InvT-loop
-Inv-loop s repeats made₀ i₀ made i = i ≤ repeats
+Inv-loop s repeats r₀ i₀ r i = i ≤ repeats + 1
 
 abbrev μ-loop : tie.MeasureT-loop
-μ-loop s repeats made₀ i₀ made i = repeats - i
+μ-loop s repeats r₀ i₀ r i = repeats - i
+
+run-requires : tie.Need-run-requires Inv-loop μ-loop
+run-requires c κs = search needs
 
 loop-holds : tie.Need-loop-holds Inv-loop μ-loop
 loop-holds c = search needs
 
-run-once-requires : tie.Need-run-once-requires Inv-loop μ-loop
-run-once-requires c κs = search needs
+run-requires-2 : tie.Need-run-requires-2 Inv-loop μ-loop
+run-requires-2 c κs = search needs
 
 add-i : tie.Need-add-i Inv-loop μ-loop
 add-i c = search needs
@@ -31,4 +34,13 @@ returns c = search needs
 pub run-often-spec : {M : Type 1} → statement M
 run-often-spec =
     tie.close
-    (tie.spec Inv-loop μ-loop loop-holds run-once-requires add-i loop-less loop-again returns)
+    (tie.spec
+    Inv-loop
+    μ-loop
+    run-requires
+    loop-holds
+    run-requires-2
+    add-i
+    loop-less
+    loop-again
+    returns)

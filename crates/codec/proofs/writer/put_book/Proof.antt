@@ -1,6 +1,6 @@
 -- `codec::writer::put_book` meets its contract. After the two first bytes the count and the records are left to store, after the count the records.
 use native.Mathlib.Omega.{arith}
-use mathlib.Core.Path.{refl, _∙_}
+use mathlib.Core.Path.{refl, sym, _∙_}
 use Prim.Native.Nat.{ℕ}
 use mathlib.Core.List.{List, [], _∷_, _++_}
 use lib.ListN.{take, set, length-set}
@@ -51,7 +51,10 @@ same-length : tie.Need-same-length
 same-length c = c .before .before .put-records .kept .0 ∙ records-left (c .before .before .before .before .before .before) .same
 
 returns : tie.Need-returns
-returns c = storing-last (records-left (c .before .before .before .before .before .before)) (c .before .before .put-records .ensures)
+returns c =
+    let r = c .before .before .put-records .ensures in
+    let p = c .before .before .before .before .before .before in
+    (r .0 ∙ sym (length-book (p .before .before .before .before .args .m)), storing-last (records-left p) (r .1))
 
 pub put-book-spec : {M : Type 1} → statement M
 put-book-spec =

@@ -1,7 +1,7 @@
 -- `codec::writer::put_records` meets its contract. The loop keeps that the records from link i on, after prev, are left to store from `at` on.
 use borrow.Author.Needs.{needs}
 use native.Mathlib.Omega.{arith}
-use mathlib.Core.Path.{_≡_}
+use mathlib.Core.Path.{_≡_, ap}
 use Prim.Native.Nat.{_+_, _-_, _≤_}
 use lib.ListN.{length, getD, take, drop, length-drop}
 use denote.Ref.{now}
@@ -86,7 +86,8 @@ returns : tie.Need-returns Inv-loop μ-loop
 returns c =
     let a = c .before .before .before .before .args .t2 in
     let lo = c .before .loop in
-    storing-end (lo .inv .1) (records-end (lo .prev) (a .links) (a .count) (lo .i) (c .loop-test .left))
+    let none = records-end (lo .prev) (a .links) (a .count) (lo .i) (c .loop-test .left) in
+    (omega (arith, lo .inv .1 .ends, ap length none), storing-end (lo .inv .1) none)
 
 pub put-records-spec : {M : Type 1} → statement M
 put-records-spec =

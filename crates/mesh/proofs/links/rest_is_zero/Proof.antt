@@ -4,18 +4,20 @@ use native.Mathlib.Omega.{arith}
 use mathlib.Core.Path.{_≡_, sym, _∙_}
 use mathlib.Core.Bool.{_&&_}
 use Prim.Native.Nat.{_-_, _≤_}
+use lib.Dec.{eqb}
 use lib.ListN.{length, drop}
 use Rattle.scan.specs.Part.{length-mapped}
+use Rattle.scan.specs.Bits.{or-zero}
 use Rattle.mesh.specs.Mesh.{allZero}
 use Rattle.mesh.specs.Laws.Links.{zero-next, zero-end}
 use Rattle.mesh.proofs.links.rest_is_zero.Statement.{statement}
 use Rattle.mesh.proofs.links.rest_is_zero.Tie as tie
 
 abbrev Inv-loop : tie.InvT-loop
-Inv-loop m clear₀ i₀ clear i = (i ≤ 256) × (allZero (drop (m .count) (m .links)) ≡ (clear && allZero (drop i (m .links))))
+Inv-loop m bits₀ i₀ bits i = (i ≤ 256) × (allZero (drop (m .count) (m .links)) ≡ (eqb bits 0 && allZero (drop i (m .links))))
 
 abbrev μ-loop : tie.MeasureT-loop
-μ-loop m clear₀ i₀ clear i = 256 - i
+μ-loop m bits₀ i₀ bits i = 256 - i
 
 cast-i : tie.Need-cast-i Inv-loop μ-loop
 cast-i c = search needs
@@ -29,8 +31,8 @@ mul-l c = search needs
 element-copy-out-l : tie.Need-element-copy-out-l Inv-loop μ-loop
 element-copy-out-l c = search needs
 
-is-zero-requires : tie.Need-is-zero-requires Inv-loop μ-loop
-is-zero-requires c κs = search needs
+as-number-requires : tie.Need-as-number-requires Inv-loop μ-loop
+as-number-requires c κs = search needs
 
 add-i : tie.Need-add-i Inv-loop μ-loop
 add-i c = search needs
@@ -43,14 +45,14 @@ loop-again c =
     let a = c .before .before .before .before .args .t1 in
     let lo = c .before .before .before .loop in
     let sized : length (a .links) ≡ 256 = search length-mapped in
-    (omega arith, rw (c .is-zero .ensures) (lo .inv .1 ∙ zero-next (a .links) (lo .i) (lo .clear) (omega arith)))
+    (omega arith, rw (or-zero (lo .bits) (c .as-number .result), c .as-number .ensures) (lo .inv .1 ∙ zero-next (a .links) (lo .i) (eqb (lo .bits) 0) (omega arith)))
 
 returns : tie.Need-returns Inv-loop μ-loop
 returns c =
     let a = c .before .before .args .t1 in
     let lo = c .before .loop in
     let sized : length (a .links) ≡ 256 = search length-mapped in
-    sym (lo .inv .1 ∙ zero-end (a .links) (lo .i) (lo .clear) (omega arith))
+    sym (lo .inv .1 ∙ zero-end (a .links) (lo .i) (eqb (lo .bits) 0) (omega arith))
 
 pub rest-is-zero-spec : {M : Type 1} → statement M
 rest-is-zero-spec =
@@ -62,7 +64,7 @@ rest-is-zero-spec =
     loop-holds
     mul-l
     element-copy-out-l
-    is-zero-requires
+    as-number-requires
     add-i
     loop-less
     loop-again

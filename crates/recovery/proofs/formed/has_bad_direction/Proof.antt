@@ -1,57 +1,22 @@
--- `recovery::formed::has_bad_direction` meets its contract. The loop keeps whether some entry below i is bad.
-use Prim.Native.Nat.{_-_, _≤_}
-use mathlib.Core.Path.{_≡_, refl}
+-- `recovery::formed::has_bad_direction` meets its contract: the largest direction is above 1, or the largest entry past the last link decides.
 use native.Mathlib.Omega.{arith}
 use borrow.Author.Needs.{needs}
-use Rattle.scan.specs.Entry.{at}
-use Rattle.scan.specs.Lowest.{any, any-zero, any-turn}
-use Rattle.recovery.specs.Formed.{isOver, overflows}
+use Rattle.recovery.specs.Laws.Largest.{overflows-above, overflows-rest}
 use Rattle.recovery.proofs.formed.has_bad_direction.Statement.{statement}
 use Rattle.recovery.proofs.formed.has_bad_direction.Tie as tie
 
-abbrev Inv-loop : tie.InvT-loop
-Inv-loop links directions bad₀ i₀ bad i = (i ≤ 256) × (bad ≡ any (λ j. isOver links 1 j (at directions j)) i)
+largest-from-requires : tie.Need-largest-from-requires
+largest-from-requires c κs = search needs
 
-abbrev μ-loop : tie.MeasureT-loop
-μ-loop links directions bad₀ i₀ bad i = 256 - i
+largest-from-requires-2 : tie.Need-largest-from-requires-2
+largest-from-requires-2 c κs = search needs
 
-loop-holds : tie.Need-loop-holds Inv-loop μ-loop
-loop-holds c = (omega arith, any-zero _)
+returns : tie.Need-returns
+returns c = overflows-rest _ 1 _ _ (c .before .before .largest-from .ensures) (omega arith) _ (c .largest-from2 .ensures)
 
-element-copy-out-is-bad-direction : tie.Need-element-copy-out-is-bad-direction Inv-loop μ-loop
-element-copy-out-is-bad-direction c = search needs
-
-is-bad-direction-requires : tie.Need-is-bad-direction-requires Inv-loop μ-loop
-is-bad-direction-requires c κs = search needs
-
-add-i : tie.Need-add-i Inv-loop μ-loop
-add-i c = search needs
-
-loop-less : tie.Need-loop-less Inv-loop μ-loop
-loop-less c = search needs
-
-loop-again : tie.Need-loop-again Inv-loop μ-loop
-loop-again c =
-    let lo = c .before .before .before .loop in
-    (omega arith, any-turn _ (lo .i) (lo .bad) _ _ (lo .inv .1) (c .is-bad-direction .ensures) refl)
-
-returns : tie.Need-returns Inv-loop μ-loop
-unfolding overflows
-returns c =
-    let lo = c .before .loop in
-    let e : lo .i ≡ 256 = omega arith in
-    rw e at (lo .inv .1)
+returns-2 : tie.Need-returns-2
+returns-2 c = overflows-above _ 1 _ _ (c .before .largest-from .ensures) (omega arith)
 
 pub has-bad-direction-spec : {M : Type 1} → statement M
 has-bad-direction-spec =
-    tie.close
-    (tie.spec
-    Inv-loop
-    μ-loop
-    loop-holds
-    element-copy-out-is-bad-direction
-    is-bad-direction-requires
-    add-i
-    loop-less
-    loop-again
-    returns)
+    tie.close (tie.spec largest-from-requires largest-from-requires-2 returns returns-2)

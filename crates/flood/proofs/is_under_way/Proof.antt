@@ -1,4 +1,4 @@
--- `flood::state::is_under_way` meets its contract: the arms are the test.
+-- `flood::is_under_way` meets its contract: the arms are the test.
 use Prim.Native.Nat.{ℕ}
 use mathlib.Core.Path.{_≡_}
 use mathlib.Core.Logic.{_⊎_, inl, inr, ⊎-elim}
@@ -6,8 +6,8 @@ use mathlib.Core.Bool.{true, false}
 use native.Mathlib.Omega.{arith}
 use borrow.Author.Tests.{ne-eqb}
 use Rattle.flood.specs.Machine.{underWay}
-use Rattle.flood.proofs.state.is_under_way.Statement.{statement}
-use Rattle.flood.proofs.state.is_under_way.Tie as tie
+use Rattle.flood.proofs.is_under_way.Statement.{statement}
+use Rattle.flood.proofs.is_under_way.Tie as tie
 
 one-of : (v : ℕ) → (v ≡ 1) ⊎ (v ≡ 3) → true ≡ underWay v
 unfolding underWay

@@ -1,4 +1,4 @@
--- `mesh::links::is_zero` meets its contract: the fields as one number are 0 just where each of them is.
+-- `mesh::links::as_number` meets its contract: the fields as one number are 0 just where each of them is.
 use Prim.Native.Nat.{ℕ, _+_, _*_}
 use mathlib.Core.Path.{_≡_}
 use native.Mathlib.Omega.{arith}
@@ -7,8 +7,8 @@ use Rattle.mesh.specs.declared.Link.{Link}
 use Rattle.mesh.specs.Mesh.{zeroLink, isZero}
 use Rattle.mesh.specs.Laws.Zeros.{zero-says}
 use borrow.Author.Needs.{needs}
-use Rattle.mesh.proofs.links.is_zero.Statement.{statement}
-use Rattle.mesh.proofs.links.is_zero.Tie as tie
+use Rattle.mesh.proofs.links.as_number.Statement.{statement}
+use Rattle.mesh.proofs.links.as_number.Tie as tie
 
 module _ (l : Link) where
   -- the fields as one number
@@ -54,8 +54,8 @@ add-result-2 c = search needs
 returns : tie.Need-returns
 returns c = says-same (eq-says _ 0) (number-says (c .before .before .before .before .args .l))
 
-pub is-zero-spec : {M : Type 1} → statement M
-is-zero-spec =
+pub as-number-spec : {M : Type 1} → statement M
+as-number-spec =
     tie.close
     (tie.spec
     cast-ends
