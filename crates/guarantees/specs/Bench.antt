@@ -16,8 +16,8 @@ use Rattle.planner.specs.Plan.{padded, zeroPlan, planned}
 use Rattle.flood.specs.Machine.{order}
 use Rattle.recovery.specs.declared.Session.{Session}
 use Rattle.recovery.specs.Calls.{digraph, failure, afterDelivery}
-use Rattle.recovery.specs.History.{Call, by-value, cut, deliver, run, mend, status, next, after, accepted}
-use Rattle.recovery.specs.Demand.{startedOn}
+use Rattle.guarantees.specs.History.{Call, by-value, cut, deliver, run, mend, status, next, after, accepted}
+use Rattle.guarantees.specs.Demand.{startedOn}
 
 -- a link with these ends, not measured and with no fibre pair
 abbrev pub ends : ℕ → ℕ → Link

@@ -32,11 +32,11 @@ use Rattle.recovery.specs.WellFormed.{PlanFormed, Formed}
 use Rattle.recovery.specs.WellFormed as formed
 use Rattle.recovery.specs.Laws.Forming.{start-formed, refused-start, record-formed, refused-record}
 use Rattle.recovery.specs.Calls.{digraph, routeOf}
-use Rattle.recovery.specs.History.{Call, reply, next, refused}
-use Rattle.recovery.specs.Demand.{Demand3, AtRest, OnePath, ended, log}
-use Rattle.recovery.specs.Laws.Refused.{refused-keeps}
-use Rattle.recovery.specs.Laws.Recovered.{demand-3}
-use Rattle.recovery.specs.Laws.Routed.{demand-route}
+use Rattle.guarantees.specs.History.{Call, reply, next, refused}
+use Rattle.guarantees.specs.Demand.{Demand3, AtRest, OnePath, ended, log}
+use Rattle.guarantees.specs.Laws.Refused.{refused-keeps}
+use Rattle.guarantees.specs.Laws.Recovered.{demand-3}
+use Rattle.guarantees.specs.Laws.Routed.{demand-route}
 use Rattle.guarantees.specs.Bench.{Row, table, Holds}
 use Rattle.guarantees.specs.Laws.Computed.{row-holds}
 

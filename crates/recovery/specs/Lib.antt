@@ -1,8 +1,5 @@
 pub mod Formed
 pub mod Calls
-pub mod History
-pub mod Rules
-pub mod Demand
 pub mod Arrays
 pub mod WellFormed
 pub mod Laws

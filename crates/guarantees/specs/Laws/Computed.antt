@@ -18,8 +18,8 @@ use Rattle.flood.specs.Machine.{holds as holds′, accepted as deliveredCount, 
 use Rattle.recovery.specs.Formed.{isOver, overflows, isStray, strays, planFault, floodFault, startAnswer}
 use Rattle.recovery.specs.Formed.{recordAnswer as recordSession}
 use Rattle.recovery.specs.Calls.{started, cutAnswer, afterCut, deliverAnswer, afterDelivery, runAnswer, afterRun}
-use Rattle.recovery.specs.History.{after}
-use Rattle.recovery.specs.Demand.{startedOn}
+use Rattle.guarantees.specs.History.{after}
+use Rattle.guarantees.specs.Demand.{startedOn}
 use Rattle.guarantees.specs.Bench.{Row, table, turns, passing, takenIn, Holds}
 use Rattle.guarantees.specs.Laws.Same.{sameDecoded, same-decoded, samePlanned, same-planned, sameNumbers, same-numbers}
 

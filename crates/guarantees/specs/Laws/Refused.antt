@@ -8,10 +8,10 @@ use Rattle.mesh.specs.declared.Answer.{Answer}
 use Rattle.mesh.specs.declared.Answer.the-variants.{Accepted, Refused}
 use Rattle.flood.specs.declared.Flood.{Flood}
 use Rattle.flood.specs.Machine as machine
 use Rattle.recovery.specs.declared.Session.{Session}
 use Rattle.recovery.specs.Calls.{digraph, cutAnswer, deliverAnswer, runAnswer, mendAnswer, change, deliveryAs, runAs, afterCut, afterDelivery, afterRun, afterMend}
-use Rattle.recovery.specs.History.{Call, cut, deliver, run, mend, status, reply, next, accepted, isRefusal, refused}
-use Rattle.recovery.specs.Laws.Kept.{acted-accepted}
+use Rattle.guarantees.specs.History.{Call, cut, deliver, run, mend, status, reply, next, accepted, isRefusal, refused}
+use Rattle.guarantees.specs.Laws.Kept.{acted-accepted}
 
 change-keeps : (a : Answer) (s t : Session) → isRefusal (change a s t .answer) ≡ true → change a s t .session ≡ s
 change-keeps Accepted s t e = clash e refl

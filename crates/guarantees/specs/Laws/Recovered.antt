@@ -19,19 +19,19 @@ use Rattle.mesh.specs.declared.Plan.{Plan}
 use Rattle.mesh.specs.declared.Answer.{Answer}
 use Rattle.mesh.specs.declared.Answer.the-variants.{Accepted, Refused}
 use Rattle.planner.specs.Plan.{planned}
 use Rattle.recovery.specs.declared.Change.{Change}
 use Rattle.recovery.specs.declared.Session.{Session}
 use Rattle.recovery.specs.Formed.{recordAnswer}
 use Rattle.recovery.specs.Calls.{backup, digraph, failure, standing, freshOn, deliveryAs, deliverAnswer, afterDelivery, routeOf}
-use Rattle.recovery.specs.History.{Call, reply, after, accepted}
-use Rattle.recovery.specs.Rules.{start, ruled, ruleReply}
-use Rattle.recovery.specs.Demand.{UnderWay, Recovers, Follows, startedOn, digraphOn, Demand3}
+use Rattle.guarantees.specs.History.{Call, reply, after, accepted}
+use Rattle.guarantees.specs.Rules.{start, ruled, ruleReply}
+use Rattle.guarantees.specs.Demand.{UnderWay, Recovers, Follows, startedOn, digraphOn, Demand3}
 use Rattle.recovery.specs.Laws.Tested.{deliver-accepts, deliver-accepted}
-use Rattle.recovery.specs.Laws.Kept.{cutSession, under, acted-accepted, kept-holds, kept-cut}
-use Rattle.recovery.specs.Laws.Started.{started-fresh, kept-record, strong, ended-kept}
-use Rattle.recovery.specs.Laws.Routed.{rest-path}
-use Rattle.recovery.specs.Laws.RuledNext.{fresh-sized}
-use Rattle.recovery.specs.Laws.Ruled.{Passing, fresh-follows, list-follows, list-answers}
+use Rattle.guarantees.specs.Laws.Kept.{cutSession, under, acted-accepted, kept-holds, kept-cut}
+use Rattle.guarantees.specs.Laws.Started.{started-fresh, kept-record, strong, ended-kept}
+use Rattle.guarantees.specs.Laws.Routed.{rest-path}
+use Rattle.guarantees.specs.Laws.RuledNext.{fresh-sized}
+use Rattle.guarantees.specs.Laws.Ruled.{Passing, fresh-follows, list-follows, list-answers}
 
 -- a further delivery is accepted just where its link is under way
 further : (s : Session) → recordAnswer s ≡ Accepted → standing (s .cut) ≡ true → (i : ℕ) → (accepted (afterDelivery s i .answer) ≡ true) ↔ UnderWay s i

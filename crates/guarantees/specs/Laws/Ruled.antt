@@ -6,15 +6,15 @@ use Rattle.mesh.specs.declared.Mesh.{Mesh}
 use Rattle.mesh.specs.declared.Plan.{Plan}
 use Rattle.mesh.specs.declared.Answer.the-variants.{Accepted}
 use Rattle.flood.specs.Digraph.{Digraph}
 use Rattle.recovery.specs.declared.Session.{Session}
 use Rattle.recovery.specs.Formed.{recordAnswer}
 use Rattle.recovery.specs.Calls.{backup, digraph, freshOn}
-use Rattle.recovery.specs.History.{Call, reply, next, after}
-use Rattle.recovery.specs.Rules.{Now, start, ruleNext, ruleReply, ruled}
-use Rattle.recovery.specs.Demand.{Follows}
-use Rattle.recovery.specs.Laws.RuledCalls.{Sized, seen, fresh-seen}
-use Rattle.recovery.specs.Laws.RuledNext.{next-mesh-plan, next-sized, next-seen}
-use Rattle.recovery.specs.Laws.RuledReply.{reply-seen}
+use Rattle.guarantees.specs.History.{Call, reply, next, after}
+use Rattle.guarantees.specs.Rules.{Now, start, ruleNext, ruleReply, ruled}
+use Rattle.guarantees.specs.Demand.{Follows}
+use Rattle.guarantees.specs.Laws.RuledCalls.{Sized, seen, fresh-seen}
+use Rattle.guarantees.specs.Laws.RuledNext.{next-mesh-plan, next-sized, next-seen}
+use Rattle.guarantees.specs.Laws.RuledReply.{reply-seen}
 
 -- ---- to follow is to be seen so
 

@@ -17,17 +17,17 @@ use Rattle.mesh.specs.Mesh.{meshAnswer}
 use Rattle.mesh.specs.Laws.Checked.{Passes, passes}
 use Rattle.planner.specs.Plan.{planned}
 use Rattle.planner.specs.Laws.Meaning.{plan-checked}
 use Rattle.recovery.specs.declared.Cut.the-variants.{Nothing, Link}
 use Rattle.recovery.specs.declared.Change.{Change}
 use Rattle.recovery.specs.declared.Session.{Session}
 use Rattle.recovery.specs.Formed.{recordAnswer}
 use Rattle.recovery.specs.WellFormed.{PlanFormed}
 use Rattle.recovery.specs.Calls.{backup, freshOn, started}
-use Rattle.recovery.specs.History.{Call, Log, emptyLog}
-use Rattle.recovery.specs.Demand.{digraphOn, ended, log}
+use Rattle.guarantees.specs.History.{Call, Log, emptyLog}
+use Rattle.guarantees.specs.Demand.{digraphOn, ended, log}
 use Rattle.recovery.specs.Laws.Forming.{cut-says, start-accepts, record-accepts}
-use Rattle.recovery.specs.Laws.Backup.{plan-most, plan-past, plan-strong}
-use Rattle.recovery.specs.Laws.Kept.{cutSession, Kept, free, under, calls-kept}
+use Rattle.guarantees.specs.Laws.Backup.{plan-most, plan-past, plan-strong}
+use Rattle.guarantees.specs.Laws.Kept.{cutSession, Kept, free, under, calls-kept}
 
 module _ (m : Mesh) (accepted : planned m .answer ≡ Accepted) where
   abbrev p : Plan

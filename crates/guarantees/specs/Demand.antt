@@ -11,12 +11,12 @@ use Rattle.flood.specs.Path.{Chain}
 use Rattle.mesh.specs.declared.Mesh.{Mesh}
 use Rattle.mesh.specs.declared.Answer.the-variants.{Accepted}
 use Rattle.planner.specs.Plan.{planned}
 use Rattle.recovery.specs.declared.Cut.the-variants.{Link}
 use Rattle.recovery.specs.declared.Session.{Session}
 use Rattle.recovery.specs.Formed.{recordAnswer}
 use Rattle.recovery.specs.Calls.{backup, digraph, started, afterDelivery}
-use Rattle.recovery.specs.History.{Call, Log, after, answers, reply, accepted, emptyLog, logged}
-use Rattle.recovery.specs.Rules.{Now, start, ruled, ruleReply}
+use Rattle.guarantees.specs.History.{Call, Log, after, answers, reply, accepted, emptyLog, logged}
+use Rattle.guarantees.specs.Rules.{Now, start, ruled, ruleReply}
 
 module _ (s : Session) where
   -- link i is under way; none is; link i is taken

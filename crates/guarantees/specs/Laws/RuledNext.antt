@@ -14,12 +14,12 @@ use Rattle.flood.specs.Digraph as failures
 use Rattle.flood.specs.Machine as machine
 use Rattle.flood.specs.Machine.{fresh, order}
 use Rattle.flood.specs.Laws.Frame.{Frame, begin-frame, step-frame, play-frame}
 use Rattle.recovery.specs.declared.Session.{Session}
 use Rattle.recovery.specs.Formed.{recordAnswer}
 use Rattle.recovery.specs.Calls.{digraph, failure, freshOn, withFlood, change, deliveryAs, runAs, afterCut, afterDelivery, afterRun, afterMend}
-use Rattle.recovery.specs.History.{Call, cut, deliver, run, mend, status, next}
-use Rattle.recovery.specs.Rules.{Now, effect, changedBy, ruleNext}
-use Rattle.recovery.specs.Laws.RuledCalls.{Sized, seen, answerOf, made, refusal-is, made-seen}
+use Rattle.guarantees.specs.History.{Call, cut, deliver, run, mend, status, next}
+use Rattle.guarantees.specs.Rules.{Now, effect, changedBy, ruleNext}
+use Rattle.guarantees.specs.Laws.RuledCalls.{Sized, seen, answerOf, made, refusal-is, made-seen}
 
 -- every call, as a cut or a mend, hands the session back where it refuses
 next-is : (c : Call) (s : Session) → next c s ≡ change (answerOf c s) s (made c s) .session

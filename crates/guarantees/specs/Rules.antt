@@ -10,15 +10,15 @@ use Rattle.mesh.specs.declared.Answer.{Answer}
 use Rattle.mesh.specs.declared.Answer.the-variants.{Accepted, Refused}
 use Rattle.mesh.specs.Mesh.{must}
 use Rattle.flood.specs.Digraph.{Digraph}
 use Rattle.recovery.specs.declared.Cut.{Cut}
 use Rattle.recovery.specs.declared.Cut.the-variants as cuts
 use Rattle.recovery.specs.declared.Delivered.{Delivered}
 use Rattle.recovery.specs.declared.Delivered.the-variants as delivered
 use Rattle.recovery.specs.declared.Report.{Report}
 use Rattle.recovery.specs.declared.Report.the-variants as report
 use Rattle.recovery.specs.declared.Status.{Status}
 use Rattle.recovery.specs.declared.Status.the-variants as statuses
-use Rattle.recovery.specs.History.{Call, Reply, cut, deliver, run, mend, status}
+use Rattle.guarantees.specs.History.{Call, Reply, cut, deliver, run, mend, status}
 
 -- the cut link or none, the state of each link (0 quiet, 1 offered, 2 taken, 3 refused, 4 released), and which nodes are reached
 pub record Now : Type 0 where

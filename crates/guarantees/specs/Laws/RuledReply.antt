@@ -7,15 +7,15 @@ use Rattle.flood.specs.declared.Flood.{Flood}
 use Rattle.flood.specs.Digraph.{Digraph}
 use Rattle.flood.specs.Machine as machine
 use Rattle.flood.specs.Machine.{underWay, some, atRest, activity, takenLinks}
 use Rattle.recovery.specs.declared.Session.{Session}
 use Rattle.recovery.specs.declared.Report.the-variants as report
 use Rattle.recovery.specs.Formed.{recordAnswer}
 use Rattle.recovery.specs.Calls.{digraph, failure, change, deliveryAs, runAs, statusAs, routeLength}
 use Rattle.recovery.specs.Calls.{deliverAnswer, runAnswer, statusAnswer, afterCut, afterDelivery, afterRun, afterMend, statusOf}
-use Rattle.recovery.specs.History.{Call, cut, deliver, run, mend, status, reply}
-use Rattle.recovery.specs.Rules.{Now, effect, changedBy, ruleNext, deliverReply, runMade, runReply, statusReply, ruleReply}
-use Rattle.recovery.specs.Laws.RuledTests.{shown, rest-is}
-use Rattle.recovery.specs.Laws.RuledCalls.{Sized, seen, stands-is, refusal-is, made-seen, run-made}
+use Rattle.guarantees.specs.History.{Call, cut, deliver, run, mend, status, reply}
+use Rattle.guarantees.specs.Rules.{Now, effect, changedBy, ruleNext, deliverReply, runMade, runReply, statusReply, ruleReply}
+use Rattle.guarantees.specs.Laws.RuledTests.{shown, rest-is}
+use Rattle.guarantees.specs.Laws.RuledCalls.{Sized, seen, stands-is, refusal-is, made-seen, run-made}
 
 module _ (s : Session) where
   abbrev g : Digraph

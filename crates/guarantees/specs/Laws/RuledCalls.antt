@@ -16,18 +16,18 @@ use Rattle.mesh.specs.Laws.Checked.{Passes, passes}
 use Rattle.flood.specs.Digraph.{Digraph}
 use Rattle.flood.specs.Machine as machine
 use Rattle.flood.specs.Machine.{underWay, fresh, accepts, step, Roomy}
 use Rattle.recovery.specs.declared.Cut.{Cut}
 use Rattle.recovery.specs.declared.Cut.the-variants.{Nothing, Link}
 use Rattle.recovery.specs.declared.Session.{Session}
 use Rattle.recovery.specs.Formed.{startAnswer, recordAnswer}
 use Rattle.recovery.specs.Calls.{digraph, failureOf, failure, standing, isCut, withFlood, freshOn, cutOn}
 use Rattle.recovery.specs.Calls.{cutAnswer, deliverAnswer, runAnswer, mendAnswer, statusAnswer}
-use Rattle.recovery.specs.History.{Form, Call, cut, deliver, run, mend, status}
-use Rattle.recovery.specs.Rules.{Now, start, stands, names, refusal, effect, runMade}
+use Rattle.guarantees.specs.History.{Form, Call, cut, deliver, run, mend, status}
+use Rattle.guarantees.specs.Rules.{Now, start, stands, names, refusal, effect, runMade}
 use Rattle.recovery.specs.Laws.Tested.{cut-accepted, deliver-accepted, run-accepted}
-use Rattle.recovery.specs.Laws.RuledTests.{shown, rest-is}
-use Rattle.recovery.specs.Laws.RuledSteps.{begin-ruled, step-ruled}
-use Rattle.recovery.specs.Laws.RuledRun.{run-ruled}
+use Rattle.guarantees.specs.Laws.RuledTests.{shown, rest-is}
+use Rattle.guarantees.specs.Laws.RuledSteps.{begin-ruled, step-ruled}
+use Rattle.guarantees.specs.Laws.RuledRun.{run-ruled}
 
 -- the lengths of the lists that calls store in
 pub record Sized (s : Session) : Type 0 where
