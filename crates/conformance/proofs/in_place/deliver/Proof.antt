@@ -1,9 +1,10 @@
 -- It lends its session to `in_place::deliver`.
+use mathlib.Core.Path.{_≡_, refl}
 use contract.Running.{givenOf, tables, tablesOf}
 use denote.Triple.Spec.{tripleOf}
 use denote.Triple.Table.{entered, cited}
 use Rattle.lent.specs.Contracts.{InPlace}
-use Rattle.lent.specs.Laws.LendOut.{lends-out}
+use Rattle.lent.specs.Laws.LendOut.{lent-out, lends-out}
 use Rattle.recovery.specs.Calls.{afterDelivery}
 use Rattle.recovery.proofs.in_place.deliver.Symbol as in-place
 use Rattle.recovery.proofs.in_place.deliver.Met as in-place-met
@@ -12,6 +13,10 @@ use Rattle.conformance.proofs.in_place.deliver as lender
 use Rattle.conformance.proofs.in_place.deliver.Key.{name}
 use Rattle.conformance.proofs.in_place.deliver.Statement.{statement}
 use Rattle.conformance.proofs.in_place.deliver.Code as code
+
+-- its code is the code that the walk is of
+code-is : code.function ≡ lent-out ofSession ofDelivery in-place.name
+code-is = refl
 
 pub deliver-spec : {M : Type 1} → statement M
 unfolding code.routine tablesOf

@@ -1,9 +1,10 @@
 -- It lends its session to `in_place::mend`.
+use mathlib.Core.Path.{_≡_, refl}
 use contract.Running.{givenOf, tables, tablesOf}
 use denote.Triple.Spec.{tripleOf}
 use denote.Triple.Table.{entered, cited}
 use Rattle.lent.specs.Contracts.{InPlace}
-use Rattle.lent.specs.Laws.LendOut.{lends-out}
+use Rattle.lent.specs.Laws.LendOut.{lent-out, lends-out}
 use Rattle.recovery.specs.Calls.{afterMend}
 use Rattle.recovery.proofs.in_place.mend.Symbol as in-place
 use Rattle.recovery.proofs.in_place.mend.Met as in-place-met
@@ -12,6 +13,10 @@ use Rattle.conformance.proofs.in_place.mend as lender
 use Rattle.conformance.proofs.in_place.mend.Key.{name}
 use Rattle.conformance.proofs.in_place.mend.Statement.{statement}
 use Rattle.conformance.proofs.in_place.mend.Code as code
+
+-- its code is the code that the walk is of
+code-is : code.function ≡ lent-out ofSession ofChange in-place.name
+code-is = refl
 
 pub mend-spec : {M : Type 1} → statement M
 unfolding code.routine tablesOf

@@ -1,9 +1,10 @@
 -- It stores back what `Session::cut` returns.
+use mathlib.Core.Path.{_≡_, refl}
 use contract.Running.{givenOf, tables, tablesOf}
 use denote.Triple.Spec.{tripleOf}
 use denote.Triple.Table.{entered, cited}
 use Rattle.lent.specs.Contracts.{ByValue}
-use Rattle.lent.specs.Laws.StoreBack.{stores-back}
+use Rattle.lent.specs.Laws.StoreBack.{stored-back, stores-back}
 use Rattle.recovery.specs.Calls.{afterCut}
 use Rattle.recovery.proofs.in_place.Returns.{ofSession, ofChange}
 use Rattle.recovery.proofs.Session.cut.Symbol as by-value
@@ -12,6 +13,10 @@ use Rattle.recovery.proofs.in_place.cut as in-place
 use Rattle.recovery.proofs.in_place.cut.Key.{name}
 use Rattle.recovery.proofs.in_place.cut.Statement.{statement}
 use Rattle.recovery.proofs.in_place.cut.Code as code
+
+-- its code is the code that the walk is of
+code-is : code.function ≡ stored-back ofSession ofChange by-value.name
+code-is = refl
 
 pub cut-spec : {M : Type 1} → statement M
 unfolding code.routine tablesOf
