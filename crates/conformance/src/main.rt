@@ -1,8 +1,8 @@
 // Reads the corpus from standard input and prints what the library answers to each case (docs/CORPUS.md).
 mod book;
 mod call;
+mod calls;
 mod case;
-mod in_place;
 mod input;
 mod listed;
 mod planning;

@@ -1,7 +1,6 @@
-// A script: a list of calls on a session. Each call is made on two copies of it: on one by value, and on the other in place where the
+// A script: a list of calls on a session. The list is made on two copies of it: on one by value, and on the other in place where the
 // call has that form. Lines of the second begin with `in-place`.
-use crate::call::make_call;
-use crate::call::next_call;
+use crate::calls::run_calls;
 use crate::case::MOST_BYTES;
 use crate::input::next_two;
 use crate::print::end;
@@ -10,12 +9,6 @@ use crate::session::first_session;
 use crate::session::show_session;
 use libc::STDIN_FILENO;
 use mesh::Mesh;
-use recovery::Session;
-
-struct Copies {
-    by_value: Session,
-    in_place: Session,
-}
 
 pub(crate) fn run_script(case: u64) -> bool {
     let length = next_two() as usize;
@@ -41,24 +34,4 @@ fn read_mesh(space: &mut [u8], length: usize) -> Mesh {
     io::read_full(STDIN_FILENO, &mut space[0..length]);
     let d = codec::decode(&space[0..length]);
     d.mesh
-}
-
-fn run_calls(s: Session, calls: u16) -> Copies {
-    let mut copies = Copies {
-        by_value: s,
-        in_place: s,
-    };
-    let mut i: u16 = 0;
-    while i < calls {
-        copies = run_call(copies);
-        i += 1;
-    }
-    copies
-}
-
-fn run_call(copies: Copies) -> Copies {
-    let call = next_call();
-    let by_value = make_call(copies.by_value, call, false);
-    let in_place = make_call(copies.in_place, call, true);
-    Copies { by_value, in_place }
 }

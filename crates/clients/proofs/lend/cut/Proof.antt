@@ -8,11 +8,11 @@ use Rattle.lent.specs.Laws.LendOut.{lent-out, lends-out}
 use Rattle.recovery.specs.Calls.{afterCut}
 use Rattle.recovery.proofs.in_place.cut.Symbol as in-place
 use Rattle.recovery.proofs.in_place.cut.Met as in-place-met
-use Rattle.conformance.proofs.in_place.Returns.{ofSession, ofChange}
-use Rattle.conformance.proofs.in_place.cut as lender
-use Rattle.conformance.proofs.in_place.cut.Key.{name}
-use Rattle.conformance.proofs.in_place.cut.Statement.{statement}
-use Rattle.conformance.proofs.in_place.cut.Code as code
+use Rattle.clients.proofs.lend.Returns.{ofSession, ofChange}
+use Rattle.clients.proofs.lend.cut as lender
+use Rattle.clients.proofs.lend.cut.Key.{name}
+use Rattle.clients.proofs.lend.cut.Statement.{statement}
+use Rattle.clients.proofs.lend.cut.Code as code
 
 -- its code is the code that the walk is of
 code-is : code.function ≡ lent-out ofSession ofChange in-place.name

@@ -8,11 +8,11 @@ use Rattle.lent.specs.Laws.LendOut.{lent-out, lends-out}
 use Rattle.recovery.specs.Calls.{afterMend}
 use Rattle.recovery.proofs.in_place.mend.Symbol as in-place
 use Rattle.recovery.proofs.in_place.mend.Met as in-place-met
-use Rattle.conformance.proofs.in_place.Returns.{ofSession, ofChange}
-use Rattle.conformance.proofs.in_place.mend as lender
-use Rattle.conformance.proofs.in_place.mend.Key.{name}
-use Rattle.conformance.proofs.in_place.mend.Statement.{statement}
-use Rattle.conformance.proofs.in_place.mend.Code as code
+use Rattle.clients.proofs.lend.Returns.{ofSession, ofChange}
+use Rattle.clients.proofs.lend.mend as lender
+use Rattle.clients.proofs.lend.mend.Key.{name}
+use Rattle.clients.proofs.lend.mend.Statement.{statement}
+use Rattle.clients.proofs.lend.mend.Code as code
 
 -- its code is the code that the walk is of
 code-is : code.function ≡ lent-out ofSession ofChange in-place.name

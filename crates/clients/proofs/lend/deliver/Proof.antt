@@ -8,11 +8,11 @@ use Rattle.lent.specs.Laws.LendOut.{lent-out, lends-out}
 use Rattle.recovery.specs.Calls.{afterDelivery}
 use Rattle.recovery.proofs.in_place.deliver.Symbol as in-place
 use Rattle.recovery.proofs.in_place.deliver.Met as in-place-met
-use Rattle.conformance.proofs.in_place.Returns.{ofSession, ofDelivery}
-use Rattle.conformance.proofs.in_place.deliver as lender
-use Rattle.conformance.proofs.in_place.deliver.Key.{name}
-use Rattle.conformance.proofs.in_place.deliver.Statement.{statement}
-use Rattle.conformance.proofs.in_place.deliver.Code as code
+use Rattle.clients.proofs.lend.Returns.{ofSession, ofDelivery}
+use Rattle.clients.proofs.lend.deliver as lender
+use Rattle.clients.proofs.lend.deliver.Key.{name}
+use Rattle.clients.proofs.lend.deliver.Statement.{statement}
+use Rattle.clients.proofs.lend.deliver.Code as code
 
 -- its code is the code that the walk is of
 code-is : code.function ≡ lent-out ofSession ofDelivery in-place.name

@@ -1,0 +1,5 @@
+pub mod Books
+pub mod Encoding
+pub mod Record
+pub mod Sessions
+pub mod Laws

@@ -1,0 +1,26 @@
+-- Where the lists of demand 3 begin, and what one cut leads to. Definitions only.
+use Prim.Native.Nat.{ℕ}
+use mathlib.Core.List.{List, [], _∷_}
+use Rattle.mesh.specs.declared.Mesh.{Mesh}
+use Rattle.planner.specs.Plan.{planned}
+use Rattle.recovery.specs.declared.Session.{Session}
+use Rattle.recovery.specs.Calls.{started, routed}
+use Rattle.guarantees.specs.History.{Call, by-value, cut, run, reply, after}
+use Rattle.guarantees.specs.Demand.{startedOn}
+use Rattle.clients.specs.declared.Begun.{Begun}
+use Rattle.clients.specs.declared.Recovered.{Recovered}
+
+-- the session that a start on m and its plan gives, with the answers of planning and of the start
+abbrev pub begun : Mesh → Begun
+begun m = record { session = startedOn m; planning = planned m .answer; starting = started m (planned m .plan) .answer }
+
+-- a run with the largest allowance there is
+abbrev pub unhindered : Call
+unhindered = run 4294967295
+
+-- the list of calls "cut k, run": the run's report, and what the route query answers after it
+unfoldable pub recovered : Session → ℕ → Recovered
+recovered s k = record {
+  report = reply unhindered (after (cut by-value k ∷ []) s);
+  routed = routed (after (cut by-value k ∷ unhindered ∷ []) s);
+}
