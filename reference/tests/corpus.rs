@@ -132,14 +132,12 @@ fn every_refusal_is_met() {
         let mut showing = reading;
         showing.insert(12);
         assert_eq!(refusals(&text, "record"), showing);
-        assert_eq!(
-            refusals(&text, "check"),
-            BTreeSet::from([3, 4, 6, 7, 8, 13])
-        );
-        let writing = BTreeSet::from([3, 4, 6, 7, 8, 11, 13]);
-        assert_eq!(refusals(&text, "write"), writing);
-        let planning = BTreeSet::from([3, 6, 7, 8, 20, 21]);
-        assert_eq!(refusals(&text, "plan"), planning);
+        let mesh = [3, 4, 6, 7, 8, 13];
+        let mesh_and = |own: &[u8]| mesh.iter().chain(own).copied().collect();
+        assert_eq!(refusals(&text, "check"), mesh_and(&[]));
+        assert_eq!(refusals(&text, "write"), mesh_and(&[11]));
+        assert_eq!(refusals(&text, "plan"), mesh_and(&[20, 21]));
+        assert_eq!(refusals(&text, "start"), mesh_and(&[]));
         let count = |start| text.lines().filter(|line| line.starts_with(start)).count();
         assert!(count("plan accepted") >= 700);
         assert!(count("plan refused 20 ") >= 200);

@@ -2,6 +2,7 @@
 mod book;
 mod call;
 mod case;
+mod digest;
 mod in_place;
 mod input;
 mod listed;
