@@ -174,9 +174,8 @@ mod tests {
         };
         let digest = digest(&mesh, &Plan::ZERO);
         let long = Case::Mesh { room: 5, mesh };
-        let planned = format!(
-            "plan refused 20 1\ndirections\nrest 0\nstart accepted\ndigest {digest}\n"
-        );
+        let planned =
+            format!("plan refused 20 1\ndirections\nrest 0\nstart accepted\ndigest {digest}\n");
         let expected = format!(
             "record-of-mesh 0\ncheck accepted\nwrite refused 11 4\nlength 0\nout\n{planned}\
             record-of-mesh 1\ncheck accepted\nwrite accepted\nlength 4\nout 01020000a5\n{planned}"
