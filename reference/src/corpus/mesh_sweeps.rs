@@ -10,7 +10,7 @@ pub fn meshes() -> Vec<(Mesh, Mesh)> {
     let mut meshes = around(&p5(), every_number_of_nodes);
     meshes.extend(around(&p5(), every_count));
     meshes.extend(around(&triangle(), entries_past_count));
-    meshes.extend(around(&plain(2, &[]), one_entry_in_16));
+    meshes.extend(around(&plain(2, &[]), some_entries_past_count));
     meshes
 }
 
@@ -62,8 +62,8 @@ fn entries_past_count(base: &Mesh) -> Vec<Mesh> {
     past.flat_map(|at| with_each_field(base, at)).collect()
 }
 
-/// The same for some entries only.
-fn one_entry_in_16(base: &Mesh) -> Vec<Mesh> {
+/// The same for one entry in 17, so that all bits take their turn.
+fn some_entries_past_count(base: &Mesh) -> Vec<Mesh> {
     let some = (0..MOST_LINKS).step_by(17);
     some.flat_map(|at| with_each_field(base, at)).collect()
 }
@@ -106,7 +106,7 @@ mod tests {
     }
 
     #[test]
-    fn one_number_of_nodes_in_61_and_one_count_is_good() {
+    fn numbers_of_nodes_from_4_to_64_and_one_count_are_good() {
         let good = |meshes: Vec<Mesh>| meshes.iter().filter(|mesh| mesh.check().is_ok()).count();
         assert_eq!(good(every_number_of_nodes(&p5())), 61);
         assert_eq!(good(every_count(&p5())), 1);

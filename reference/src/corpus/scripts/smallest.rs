@@ -11,7 +11,7 @@ use crate::session::Session;
 pub fn scripts(random: &mut Random) -> Vec<Script> {
     let mut scripts = Vec::new();
     for mesh in [plain(2, &[]), plain(2, &[(0, 1)])] {
-        for origin in starts(&mesh) {
+        for origin in starts() {
             scripts.extend(called(&mesh, &origin, random));
         }
         for session in sessions(&mesh, random) {
@@ -24,12 +24,10 @@ pub fn scripts(random: &mut Random) -> Vec<Script> {
 
 /// On the mesh's plan, which is all zeros as planning refuses, and on other
 /// directions: 13 where one is above 1, or above 0 past L.
-fn starts(mesh: &Mesh) -> Vec<Origin> {
-    let past = vec![0; mesh.count.into()];
-    let with_last = |direction| [&past[..], &[direction]].concat();
-    let given = [vec![], vec![0], vec![1], vec![2], vec![255], with_last(1)];
+fn starts() -> Vec<Origin> {
+    let given: [&[u8]; 6] = [&[], &[0], &[1], &[2], &[255], &[0, 1]];
     let mut starts = vec![Origin::OwnPlan];
-    starts.extend(given.map(Origin::GivenPlan));
+    starts.extend(given.map(|directions| Origin::GivenPlan(directions.to_vec())));
     starts
 }
 
