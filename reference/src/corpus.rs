@@ -9,6 +9,7 @@ pub mod headers;
 pub mod largest_graphs;
 pub mod listings;
 pub mod mesh_records;
+pub mod mesh_sweeps;
 pub mod meshes;
 pub mod named_graphs;
 pub mod parted_graphs;

@@ -6,6 +6,7 @@ pub mod bench;
 pub mod book;
 pub mod case;
 pub mod corpus;
+pub mod digest;
 pub mod listing;
 pub mod mesh;
 pub mod meshplan;

@@ -4,10 +4,13 @@ pub mod scripts;
 
 use crate::book::{decode, encode, record};
 use crate::case::Case;
+use crate::digest::digest;
 use crate::mesh::{Link, Mesh};
 use crate::meshplan::add_listing;
 use crate::plain_plan::checked_plan;
+use crate::plan::Plan;
 use crate::refusal::{in_words, Answer};
+use crate::session::{start, Session};
 
 /// Every byte of an output before it is lent.
 const FILL: u8 = 0xa5;
@@ -19,7 +22,7 @@ pub fn listing(cases: &[Case]) -> Result<String, String> {
     for (number, case) in cases.iter().enumerate() {
         match case {
             Case::Book { room, link, book } => lines.book(number, *room, *link, book),
-            Case::Mesh { room, mesh } => lines.mesh_record(number, *room, mesh),
+            Case::Mesh { room, mesh } => lines.mesh_record(number, *room, mesh)?,
             Case::Planning { mesh } => lines.planning(number, mesh)?,
             Case::Script(script) => lines.script(number, script),
             Case::Listing { book } => lines.listed(number, book),
@@ -45,14 +48,24 @@ impl Lines {
         self.bytes("part", part);
     }
 
-    fn mesh_record(&mut self, number: usize, room: u16, mesh: &Mesh) {
+    fn mesh_record(&mut self, number: usize, room: u16, mesh: &Mesh) -> Result<(), String> {
         self.line(&format!("record-of-mesh {number}"));
         self.answer("check", mesh.check());
         self.write(mesh, room);
+        let plan = self.plan(number, mesh)?;
+        let (session, answer) = start(mesh, &plan);
+        self.answer("start", answer);
+        self.digest("", &session);
+        Ok(())
     }
 
     fn planning(&mut self, number: usize, mesh: &Mesh) -> Result<(), String> {
         self.line(&format!("planning {number} {} {}", mesh.nodes, mesh.count));
+        self.plan(number, mesh).map(|_| ())
+    }
+
+    /// What planning gives.
+    fn plan(&mut self, number: usize, mesh: &Mesh) -> Result<Plan, String> {
         let checked = checked_plan(mesh);
         let (plan, answer) = checked.map_err(|error| format!("case {number}: {error}"))?;
         self.answer("plan", answer);
@@ -61,7 +74,7 @@ impl Lines {
         let past = plan.directions[count..].iter();
         let rest = past.filter(|direction| **direction != 0).count();
         self.line(&format!("rest {rest}"));
-        Ok(())
+        Ok(plan)
     }
 
     fn listed(&mut self, number: usize, book: &[u8]) {
@@ -93,6 +106,11 @@ impl Lines {
         self.bytes("out", &output);
     }
 
+    fn digest(&mut self, form: &str, session: &Session) {
+        let digest = digest(&session.mesh, &session.plan);
+        self.line(&format!("{form}digest {digest}"));
+    }
+
     fn answer(&mut self, word: &str, answer: Answer) {
         self.line(&format!("{word} {}", in_words(answer)));
     }
@@ -119,7 +137,9 @@ mod tests {
     use super::listing;
     use crate::case::Case;
     use crate::corpus::meshes::plain;
+    use crate::digest::digest;
     use crate::mesh::Mesh;
+    use crate::plan::Plan;
 
     #[test]
     fn lists_an_accepted_book() {
@@ -152,10 +172,29 @@ mod tests {
             room: 0,
             mesh: mesh.clone(),
         };
+        let digest = digest(&mesh, &Plan::ZERO);
         let long = Case::Mesh { room: 5, mesh };
-        let expected = "record-of-mesh 0\ncheck accepted\nwrite refused 11 4\nlength 0\nout\n\
-            record-of-mesh 1\ncheck accepted\nwrite accepted\nlength 4\nout 01020000a5\n";
+        let planned =
+            format!("plan refused 20 1\ndirections\nrest 0\nstart accepted\ndigest {digest}\n");
+        let expected = format!(
+            "record-of-mesh 0\ncheck accepted\nwrite refused 11 4\nlength 0\nout\n{planned}\
+            record-of-mesh 1\ncheck accepted\nwrite accepted\nlength 4\nout 01020000a5\n{planned}"
+        );
         assert_eq!(listing(&[short, long]).unwrap(), expected);
+    }
+
+    #[test]
+    fn lists_a_mesh_record_that_no_session_starts_on() {
+        let mut mesh = Box::new(Mesh::new(2, &[]));
+        mesh.count = 300;
+        let zeros = "0".repeat(256);
+        let digest = digest(&Mesh::ZERO, &Plan::ZERO);
+        let expected = format!(
+            "record-of-mesh 0\ncheck refused 4 0\nwrite refused 4 0\nlength 0\nout a5\n\
+            plan refused 4 0\ndirections {zeros}\nrest 0\nstart refused 4 0\ndigest {digest}\n"
+        );
+        let case = Case::Mesh { room: 1, mesh };
+        assert_eq!(listing(&[case]).unwrap(), expected);
     }
 
     #[test]

@@ -1,40 +1,60 @@
 //! What every corpus holds.
 
 use std::collections::BTreeSet;
+use std::sync::OnceLock;
 
 use reference::case::{read_cases, write_cases, Case, MOST_BYTES};
-use reference::corpus::{self, listings, scripts};
+use reference::corpus;
 use reference::listing::listing;
-use reference::random::Random;
 
 const SEEDS: [u64; 4] = [0, 1, 2, u64::MAX];
 
-/// The refusal numbers on the listing's lines that start with `word`.
-fn refusals(listing: &str, word: &str) -> BTreeSet<u8> {
+/// The cases of one kind in a corpus, and their listing.
+struct Part {
+    cases: Vec<Case>,
+    listing: String,
+}
+
+/// Books, mesh records, plannings, scripts, books to list.
+type Parts = [Part; 5];
+
+fn kind(case: &Case) -> usize {
+    match case {
+        Case::Book { .. } => 0,
+        Case::Mesh { .. } => 1,
+        Case::Planning { .. } => 2,
+        Case::Script(_) => 3,
+        Case::Listing { .. } => 4,
+    }
+}
+
+/// The corpus of each seed, made once for all tests.
+fn corpora() -> &'static [Parts] {
+    static MADE: OnceLock<Vec<Parts>> = OnceLock::new();
+    MADE.get_or_init(|| SEEDS.map(|seed| parts(&corpus::make(seed))).into())
+}
+
+fn parts(cases: &[Case]) -> Parts {
+    [0, 1, 2, 3, 4].map(|number| {
+        let of_kind = cases.iter().filter(|case| kind(case) == number);
+        let cases: Vec<Case> = of_kind.cloned().collect();
+        let listing = listing(&cases).expect("both methods of planning agree");
+        Part { cases, listing }
+    })
+}
+
+/// The refusal numbers on the lines of all parts that start with `word`.
+fn refusals(parts: &Parts, word: &str) -> BTreeSet<u8> {
     let start = format!("{word} refused ");
-    let after_word = listing.lines().filter_map(|line| line.strip_prefix(&start));
+    let lines = parts.iter().flat_map(|part| part.listing.lines());
+    let after_word = lines.filter_map(|line| line.strip_prefix(&start));
     let numbers = after_word.filter_map(|rest| rest.split(' ').next());
     numbers.map(|number| number.parse().unwrap()).collect()
 }
 
-fn listed(cases: &[Case]) -> String {
-    listing(cases).expect("both methods of planning agree")
-}
-
-/// The number of cases of each kind: books, mesh records, plannings, scripts,
-/// books to list.
-fn counts(cases: &[Case]) -> [usize; 5] {
-    let mut counts = [0; 5];
-    for case in cases {
-        counts[match case {
-            Case::Book { .. } => 0,
-            Case::Mesh { .. } => 1,
-            Case::Planning { .. } => 2,
-            Case::Script(_) => 3,
-            Case::Listing { .. } => 4,
-        }] += 1;
-    }
-    counts
+fn count_lines(listing: &str, start: &str) -> usize {
+    let lines = listing.lines();
+    lines.filter(|line| line.starts_with(start)).count()
 }
 
 #[test]
@@ -73,97 +93,77 @@ fn an_ill_formed_corpus_is_an_error() {
 }
 
 #[test]
-fn counts_and_sizes() {
+fn each_kind_stands_together() {
     for seed in SEEDS {
         let cases = corpus::make(seed);
-        let [books, mesh_records, plannings, scripts, listings] = counts(&cases);
-        assert!(books >= 2_400);
-        assert!(mesh_records >= 300);
-        assert!(plannings >= 1_200);
-        assert!(scripts >= 1_100);
-        assert!(listings >= 800);
-        assert!(write_cases(&cases).len() < 1_200_000);
-        assert!(listed(&cases).len() < 5_500_000);
+        assert!(cases.windows(2).all(|two| kind(&two[0]) <= kind(&two[1])));
     }
 }
 
 #[test]
-fn plannings_scripts_and_books_to_list_come_last_and_are_small() {
-    for seed in SEEDS {
-        let cases = corpus::make(seed);
-        let [_, _, plannings, scripts, listings] = counts(&cases);
-        let (rest, listings) = cases.split_at(cases.len() - listings);
-        let (rest, scripts) = rest.split_at(rest.len() - scripts);
-        let plannings = &rest[rest.len() - plannings..];
-        assert_eq!(counts(plannings)[2], plannings.len());
-        assert!(write_cases(plannings).len() < 350_000);
-        assert_eq!(counts(scripts)[3], scripts.len());
-        assert!(write_cases(scripts).len() < 400_000);
-        assert!(listed(scripts).len() < 1_900_000);
-        assert_eq!(counts(listings)[4], listings.len());
-        assert!(write_cases(listings).len() < 200_000);
-        assert!(listed(listings).len() < 1_500_000);
+fn counts_and_sizes() {
+    // Books, mesh records, plannings, scripts, books to list.
+    let fewest = [2_400, 2_000, 3_000, 3_500, 1_100];
+    let most_bytes = [400_000, 250_000, 500_000, 1_000_000, 200_000];
+    let longest_listings = [1_600_000, 600_000, 400_000, 5_500_000, 1_500_000];
+    for parts in corpora() {
+        for (number, part) in parts.iter().enumerate() {
+            assert!(part.cases.len() >= fewest[number]);
+            assert!(write_cases(&part.cases).len() < most_bytes[number]);
+            assert!(part.listing.len() < longest_listings[number]);
+        }
+        let bytes = parts.iter().map(|part| write_cases(&part.cases).len());
+        assert!(bytes.sum::<usize>() < 2_000_000);
+        let listings = parts.iter().map(|part| part.listing.len());
+        assert!(listings.sum::<usize>() < 9_000_000);
     }
 }
 
 #[test]
 fn rooms_and_books_are_within_the_limit() {
-    for seed in SEEDS {
-        for case in corpus::make(seed) {
-            let (room, length) = match case {
-                Case::Book { room, book, .. } => (room, book.len()),
-                Case::Mesh { room, .. } => (room, 0),
-                Case::Planning { .. } => (0, 0),
-                Case::Script(script) => (0, script.book.len()),
-                Case::Listing { book } => (0, book.len()),
-            };
-            assert!(usize::from(room) <= MOST_BYTES);
-            assert!(length <= MOST_BYTES);
-        }
+    for case in corpora().iter().flatten().flat_map(|part| &part.cases) {
+        let (room, length) = match case {
+            Case::Book { room, book, .. } => (*room, book.len()),
+            Case::Mesh { room, .. } => (*room, 0),
+            Case::Planning { .. } => (0, 0),
+            Case::Script(script) => (0, script.book.len()),
+            Case::Listing { book } => (0, book.len()),
+        };
+        assert!(usize::from(room) <= MOST_BYTES);
+        assert!(length <= MOST_BYTES);
     }
 }
 
 #[test]
 fn every_refusal_is_met() {
-    for seed in SEEDS {
-        let text = listed(&corpus::make(seed));
-        let reading = BTreeSet::from_iter(1..=10);
-        assert_eq!(refusals(&text, "read"), reading);
-        let mut showing = reading;
-        showing.insert(12);
-        assert_eq!(refusals(&text, "record"), showing);
-        assert_eq!(
-            refusals(&text, "check"),
-            BTreeSet::from([3, 4, 6, 7, 8, 13])
-        );
-        let writing = BTreeSet::from([3, 4, 6, 7, 8, 11, 13]);
-        assert_eq!(refusals(&text, "write"), writing);
-        let planning = BTreeSet::from([3, 6, 7, 8, 20, 21]);
-        assert_eq!(refusals(&text, "plan"), planning);
-        let count = |start| text.lines().filter(|line| line.starts_with(start)).count();
-        assert!(count("plan accepted") >= 700);
-        assert!(count("plan refused 20 ") >= 200);
-        assert!(count("plan refused 21 ") >= 300);
+    let reading = BTreeSet::from_iter(1..=10);
+    let showing = BTreeSet::from_iter((1..=10).chain([12]));
+    let mesh = [3, 4, 6, 7, 8, 13];
+    let mesh_and = |own: &[u8]| mesh.iter().chain(own).copied().collect();
+    for parts in corpora() {
+        assert_eq!(refusals(parts, "read"), reading);
+        assert_eq!(refusals(parts, "record"), showing);
+        assert_eq!(refusals(parts, "check"), mesh_and(&[]));
+        assert_eq!(refusals(parts, "write"), mesh_and(&[11]));
+        assert_eq!(refusals(parts, "plan"), mesh_and(&[20, 21]));
+        assert_eq!(refusals(parts, "start"), mesh_and(&[]));
+        let plannings = &parts[2].listing;
+        assert!(count_lines(plannings, "plan accepted") >= 1_100);
+        assert!(count_lines(plannings, "plan refused 20 ") >= 500);
+        assert!(count_lines(plannings, "plan refused 21 ") >= 700);
     }
 }
 
 #[test]
 fn every_refusal_of_a_listing_is_met() {
-    for seed in SEEDS {
-        let text = listed(&listings::cases(&mut Random::new(seed)));
-        let refused = text
-            .lines()
-            .filter_map(|line| line.strip_prefix("refused "));
+    for [.., part] in corpora() {
+        let lines = part.listing.lines();
+        let refused = lines.filter_map(|line| line.strip_prefix("refused "));
         let numbers = refused.map(|rest| rest.split(' ').next().unwrap().parse().unwrap());
         let expected = BTreeSet::from_iter((1..=10).chain([20, 21]));
         assert_eq!(numbers.collect::<BTreeSet<u8>>(), expected);
-        assert!(
-            text.lines()
-                .filter(|line| line.starts_with("mesh "))
-                .count()
-                >= 500
-        );
-        assert_eq!(text.matches("mesh 64 256\n").count(), 3);
+        assert!(count_lines(&part.listing, "mesh ") >= 750);
+        assert_eq!(part.listing.matches("mesh 64 256\n").count(), 3);
     }
 }
 
@@ -191,20 +191,48 @@ fn every_refusal_of_a_session_is_met() {
         ("run", &[23]),
         ("route", &[23]),
     ];
-    for seed in SEEDS {
-        let text = listed(&scripts::cases(&mut Random::new(seed)));
+    for [_, _, _, scripts, _] in corpora() {
         for (word, own) in calls {
             let expected = record.iter().chain(own).copied().collect();
-            assert_eq!(script_refusals(&text, word), expected, "{word}");
+            assert_eq!(script_refusals(&scripts.listing, word), expected, "{word}");
         }
-        assert_eq!(script_refusals(&text, "start"), BTreeSet::from([13]));
+        // A script's mesh is that of an accepted book.
+        let starts = script_refusals(&scripts.listing, "start");
+        assert_eq!(starts, BTreeSet::from([13]));
+    }
+}
+
+#[test]
+fn every_mesh_on_5_nodes_is_planned_and_each_planned_one_is_listed() {
+    // So many graphs on 5 nodes are whole, and whole without any one link.
+    let planned = 253;
+    for [_, _, plannings, _, listings] in corpora() {
+        let lines: Vec<&str> = plannings.listing.lines().collect();
+        let on_5_nodes = |case: &&[&str]| case[0].split(' ').nth(2) == Some("5");
+        let cases: Vec<&[&str]> = lines.chunks(4).filter(on_5_nodes).collect();
+        let accepted = cases.iter().filter(|case| case[1] == "plan accepted");
+        assert!(cases.len() >= 1_024);
+        assert!(accepted.count() >= planned);
+        assert!(count_lines(&listings.listing, "mesh 5 ") >= planned);
+    }
+}
+
+#[test]
+fn four_lists_have_thousands_of_calls() {
+    for [_, _, _, scripts, _] in corpora() {
+        let is_long = |case: &&Case| match case {
+            Case::Script(script) => script.calls.len() >= 4_000,
+            _ => false,
+        };
+        assert_eq!(scripts.cases.iter().filter(is_long).count(), 4);
     }
 }
 
 #[test]
 fn the_listing_has_no_trailing_spaces() {
-    let text = listed(&corpus::make(1));
-    assert!(text.is_ascii());
-    assert!(text.ends_with('\n'));
-    assert!(text.lines().all(|line| line == line.trim()));
+    for part in &corpora()[1] {
+        assert!(part.listing.is_ascii());
+        assert!(part.listing.ends_with('\n'));
+        assert!(part.listing.lines().all(|line| line == line.trim()));
+    }
 }

@@ -3,6 +3,7 @@ mod book;
 mod call;
 mod calls;
 mod case;
+mod digest;
 mod input;
 mod listed;
 mod planning;

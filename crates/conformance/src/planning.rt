@@ -11,6 +11,7 @@ use crate::print::word;
 use libc::STDIN_FILENO;
 use mesh::Link;
 use mesh::Mesh;
+use mesh::Plan;
 
 // A mesh with these ends alone, and its plan.
 pub(crate) fn run_planning(case: u64) -> bool {
@@ -27,6 +28,12 @@ pub(crate) fn run_planning(case: u64) -> bool {
     number(m.nodes as u64);
     number(m.count as u64);
     end();
+    show_plan(m);
+    true
+}
+
+// Plans m, and shows the answer and the plan.
+pub(crate) fn show_plan(m: Mesh) -> Plan {
     let p = planner::plan(m);
     let a = p.answer;
     word(b"plan");
@@ -34,7 +41,7 @@ pub(crate) fn run_planning(case: u64) -> bool {
     let plan = p.plan;
     let directions = plan.directions;
     show_directions(&directions, m.count as usize);
-    true
+    plan
 }
 
 // The mesh with the ends of its links that the corpus gives next.

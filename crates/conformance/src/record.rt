@@ -1,11 +1,14 @@
-// A mesh record: checked and encoded.
+// A mesh record: checked, encoded, planned, and a session started on it and its plan.
 use crate::case::four;
 use crate::case::two;
 use crate::case::with_entry;
+use crate::digest::show_digest;
+use crate::planning::show_plan;
 use crate::print::answer;
 use crate::print::end;
 use crate::print::field;
 use crate::print::word;
+use crate::session::started;
 use crate::written::show_written;
 use libc::STDIN_FILENO;
 use mesh::Link;
@@ -28,7 +31,10 @@ pub(crate) fn run_mesh(case: u64) -> bool {
     end();
     word(b"check");
     answer(mesh::check(m));
-    show_written(m, room)
+    let shown = show_written(m, room);
+    let plan = show_plan(m);
+    show_digest(started(m, plan));
+    shown
 }
 
 // The mesh with the entries that the corpus gives next.

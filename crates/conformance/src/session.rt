@@ -1,5 +1,6 @@
 // Sessions of a script: how it starts, and what it ends with.
 use crate::case::with_entry;
+use crate::digest::show_digest;
 use crate::input::next_byte;
 use crate::input::next_four;
 use crate::input::next_two;
@@ -34,7 +35,7 @@ fn own_plan(m: Mesh) -> Session {
     started(m, plan)
 }
 
-fn started(m: Mesh, plan: Plan) -> Session {
+pub(crate) fn started(m: Mesh, plan: Plan) -> Session {
     let c = Session::start(m, plan);
     let a = c.answer;
     word(b"start");
@@ -165,6 +166,8 @@ pub(crate) fn show_session(s: Session, lent: bool) {
     let reached = flood.reached;
     form(lent);
     show_reached(&reached);
+    form(lent);
+    show_digest(s);
 }
 
 fn state(v: u8) {

@@ -28,13 +28,14 @@ fn bench_examples() -> Vec<Mesh> {
 
 /// Every choice of links on 2, 3 and 4 nodes.
 pub fn every_small_mesh() -> Vec<Mesh> {
-    let every_choice = |nodes: u8, pairs: usize| {
-        (0..1 << pairs).map(move |choice| plain(nodes, &shapes::chosen(nodes, choice)))
-    };
-    every_choice(2, 1)
-        .chain(every_choice(3, 3))
-        .chain(every_choice(4, 6))
-        .collect()
+    (2..=4).flat_map(every_mesh_on).collect()
+}
+
+/// Every choice of links on so many nodes.
+pub fn every_mesh_on(nodes: u8) -> Vec<Mesh> {
+    let choices = 0..1 << shapes::complete(nodes).len();
+    let mesh = |choice| plain(nodes, &shapes::chosen(nodes, choice));
+    choices.map(mesh).collect()
 }
 
 /// Few links on 64 nodes, with the ends 0, 62 and 63.

@@ -1,5 +1,6 @@
 //! Books to list: refused ones of every kind, and meshes of every size.
 
+use super::accepted::every_mesh_on;
 use super::graphs::Graph;
 use super::meshes::{filled, Fill};
 use super::scripts::grounds::{largest, middle, p5, small, triangle};
@@ -7,11 +8,13 @@ use super::{faults, headers, named_graphs, parted_graphs, random_graphs};
 use crate::book::bytes_of;
 use crate::case::{Case, MOST_BYTES};
 use crate::mesh::Mesh;
+use crate::plan::plan;
 use crate::random::Random;
 
 pub fn cases(random: &mut Random) -> Vec<Case> {
     let mut books = refused_by_reading();
     books.extend(meshes(random).iter().map(bytes_of));
+    books.extend(planned_on_5_nodes().iter().map(bytes_of));
     books.into_iter().map(case).collect()
 }
 
@@ -39,6 +42,13 @@ fn meshes(random: &mut Random) -> Vec<Mesh> {
     meshes.extend((0..60).map(|_| small(random)));
     meshes.extend((0..60).map(|_| middle(random)));
     meshes.extend((0..3).map(|_| largest(random)));
+    meshes
+}
+
+/// Every mesh on 5 nodes that planning accepts.
+fn planned_on_5_nodes() -> Vec<Mesh> {
+    let mut meshes = every_mesh_on(5);
+    meshes.retain(|mesh| plan(mesh).1.is_ok());
     meshes
 }
 

@@ -1,5 +1,6 @@
 //! Mesh records, good and wrong.
 
+use super::mesh_sweeps;
 use super::meshes::{filled, longest, plain, random_mesh, Fill};
 use super::questions::room;
 use super::shapes;
@@ -21,7 +22,19 @@ pub fn cases(random: &mut Random) -> Vec<Case> {
         .map(|mesh| with_room(mesh, random))
         .collect();
     cases.extend(small_rooms(random));
+    cases.extend(sweeps());
     cases
+}
+
+/// The room is that of the good mesh's book, or no room at all.
+fn sweeps() -> Vec<Case> {
+    let around = mesh_sweeps::meshes();
+    let large = mesh_sweeps::meshes_with_256_links();
+    let around = around
+        .iter()
+        .map(|(mesh, good)| case(bytes_of(good).len() as u16, mesh));
+    let large = large.iter().map(|mesh| case(0, mesh));
+    around.chain(large).collect()
 }
 
 fn with_room(mesh: Mesh, random: &mut Random) -> Case {

@@ -7,8 +7,11 @@ pub mod faults;
 pub mod grounds;
 pub mod ill_formed;
 pub mod lists;
+pub mod long_lists;
 pub mod odd;
 pub mod plans;
+pub mod smallest;
+pub mod sweeps;
 
 use crate::case::Case;
 use crate::random::Random;
@@ -20,5 +23,8 @@ pub fn cases(random: &mut Random) -> Vec<Case> {
     scripts.extend(plans::scripts(random));
     scripts.extend(ill_formed::scripts(random));
     scripts.extend(odd::scripts(random));
+    scripts.extend(smallest::scripts(random));
+    scripts.extend(sweeps::scripts(random));
+    scripts.extend(long_lists::scripts(random));
     scripts.into_iter().map(Case::Script).collect()
 }

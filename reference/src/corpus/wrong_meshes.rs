@@ -80,6 +80,19 @@ pub fn with_ends(base: &Mesh, at: usize, low: u8, high: u8) -> Mesh {
     mesh
 }
 
+/// The mesh with 7, 6 or 8 at one link, by turns; not 8 at link 0.
+pub fn with_wrong_link(base: &Mesh, at: usize) -> Mesh {
+    let Link { low, high, .. } = base.links[at];
+    match at % 3 {
+        0 => with_ends(base, at, high, low),
+        1 => with_ends(base, at, low, base.nodes),
+        _ => {
+            let before = base.links[at - 1];
+            with_ends(base, at, before.low, before.high)
+        }
+    }
+}
+
 /// Several faults, to show which is met first.
 fn several_wrong(base: &Mesh) -> Vec<Mesh> {
     let last = base.counted().len() - 1;

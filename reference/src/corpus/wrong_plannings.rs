@@ -2,9 +2,10 @@
 
 use super::graphs::side_by_side;
 use super::meshes::plain;
+use super::scripts::grounds::dense;
 use super::shapes;
-use super::wrong_meshes::with_ends;
-use crate::mesh::Mesh;
+use super::wrong_meshes::{with_ends, with_wrong_link};
+use crate::mesh::{Mesh, MOST_LINKS};
 use crate::random::Random;
 
 pub fn meshes(random: &mut Random) -> Vec<Mesh> {
@@ -16,6 +17,7 @@ pub fn meshes(random: &mut Random) -> Vec<Mesh> {
     }
     meshes.extend(no_links());
     meshes.extend(many_links(random));
+    meshes.extend(every_position());
     meshes
 }
 
@@ -83,6 +85,16 @@ fn many_links(random: &mut Random) -> Vec<Mesh> {
         with_ends(&base, 255, before.low, before.high),
         Mesh { nodes: 65, ..base },
     ]
+}
+
+/// 7, 6 and 8 by turns in the last of 1 to 256 links.
+fn every_position() -> Vec<Mesh> {
+    let all = dense();
+    let with_wrong_last = |last: usize| {
+        let good = Mesh::new(all.nodes, &all.links[..=last]);
+        with_wrong_link(&good, last)
+    };
+    (0..MOST_LINKS).map(with_wrong_last).collect()
 }
 
 #[cfg(test)]

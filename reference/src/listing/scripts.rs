@@ -34,6 +34,7 @@ impl Lines {
         let all = (0..).zip(session.reached);
         let reached = all.filter(|node| node.1).map(|node| node.0);
         self.digits(&format!("{form}reached"), &spaced(reached));
+        self.digest(form, session);
     }
 }
 
@@ -98,7 +99,11 @@ fn spaced(numbers: impl Iterator<Item = u16>) -> String {
 #[cfg(test)]
 mod tests {
     use crate::case::Case;
+    use crate::corpus::scripts::grounds::triangle;
+    use crate::digest::digest;
     use crate::listing::listing;
+    use crate::mesh::Mesh;
+    use crate::plan::Plan;
     use crate::script::{Call, GivenSession, Origin, Script};
 
     fn listed(origin: Origin, calls: Vec<Call>) -> String {
@@ -112,7 +117,7 @@ mod tests {
     }
 
     /// The lines before the calls, then each call's line by value and in place, then the session's lines likewise.
-    fn both(before: &str, calls: &str, cut: &str, states: &str, reached: &str) -> String {
+    fn both(before: &str, calls: &str, session: &str, digest: u64) -> String {
         let again = |lines: &str| -> String {
             lines
                 .lines()
@@ -123,8 +128,20 @@ mod tests {
             .lines()
             .map(|line| format!("{line}\n{}", again(line)))
             .collect();
-        let session = format!("{cut}\nstates {states:0<256}\n{reached}\n");
+        let session = format!("{session}digest {digest}\n");
         format!("{before}{calls}{session}{}", again(&session))
+    }
+
+    /// A session's lines before its digest.
+    fn state(cut: &str, states: &str, reached: &str) -> String {
+        format!("{cut}\nstates {states:0<256}\n{reached}\n")
+    }
+
+    /// The digest of the triangle and these directions.
+    fn of_triangle(directions: &[u8]) -> u64 {
+        let mut plan = Plan::ZERO;
+        plan.directions[..directions.len()].copy_from_slice(directions);
+        digest(&triangle(), &plan)
     }
 
     #[test]
@@ -147,7 +164,8 @@ mod tests {
             cut 1 refused 22 1\ndeliver 1 taken 2\nroute accepted\nrun 0 made 0 moving\n\
             deliver 2 taken 1\nrun 0 made 0 rest\nstatus 2 state 2 busy 0 route 2\n\
             route accepted 1 2\nmend 3 refused 12 3\n";
-        let expected = both(before, lines, "cut-is 0", "022", "reached 0 1 2");
+        let session = state("cut-is 0", "022", "reached 0 1 2");
+        let expected = both(before, lines, &session, of_triangle(&[0, 1, 0]));
         assert_eq!(listed(Origin::OwnPlan, calls), expected);
     }
 
@@ -156,7 +174,9 @@ mod tests {
         let calls = vec![Call::Run(7), Call::Route, Call::Deliver(0)];
         let before = "script 0\nstart refused 13 0\n";
         let lines = "run 7 refused 3 0\nroute refused 3 0\ndeliver 0 refused 3 0\n";
-        let expected = both(before, lines, "cut none", "", "reached");
+        let session = state("cut none", "", "reached");
+        let zero = digest(&Mesh::ZERO, &Plan::ZERO);
+        let expected = both(before, lines, &session, zero);
         assert_eq!(listed(Origin::GivenPlan(vec![0, 2]), calls), expected);
     }
 
@@ -173,7 +193,8 @@ mod tests {
         };
         let origin = Origin::GivenSession(Box::new(given));
         let lines = "status 9 refused 13 0\n";
-        let expected = both("script 0\n", lines, "cut-is 65534", "04?", "reached 2 63");
+        let session = state("cut-is 65534", "04?", "reached 2 63");
+        let expected = both("script 0\n", lines, &session, of_triangle(&[1]));
         assert_eq!(listed(origin, vec![Call::Status(9)]), expected);
     }
 }

@@ -14,6 +14,33 @@ pub fn p5() -> Mesh {
     plain(4, &[(0, 1), (0, 2), (0, 3), (1, 2), (2, 3)])
 }
 
+/// The T1 backbone of NSFNET.
+pub fn nsfnet() -> Mesh {
+    let high_ends: [(u8, &[u8]); 12] = [
+        (0, &[1, 2, 7]),
+        (1, &[2, 3]),
+        (2, &[5]),
+        (3, &[4, 10]),
+        (4, &[5, 6]),
+        (5, &[9, 13]),
+        (6, &[7]),
+        (7, &[8]),
+        (8, &[9, 11, 12]),
+        (10, &[11, 12]),
+        (11, &[13]),
+        (12, &[13]),
+    ];
+    let from =
+        |(low, high_ends): (u8, &'static [u8])| high_ends.iter().map(move |high| (low, *high));
+    let links: shapes::Shape = high_ends.into_iter().flat_map(from).collect();
+    plain(14, &links)
+}
+
+/// 256 links on as few nodes as can have them, with a short book.
+pub fn dense() -> Mesh {
+    plain(24, &shapes::complete(24)[..MOST_LINKS])
+}
+
 /// A mesh with up to 7 nodes that planning accepts.
 pub fn small(random: &mut Random) -> Mesh {
     match random.below(8) {
@@ -100,6 +127,8 @@ mod tests {
             assert_eq!(plan(&small(random)).1, Ok(()));
             assert_eq!(plan(&middle(random)).1, Ok(()));
         }
+        assert_eq!(plan(&nsfnet()).1, Ok(()));
+        assert_eq!(plan(&dense()).1, Ok(()));
         let largest = largest(random);
         assert_eq!((largest.nodes, largest.count), (64, 256));
         assert_eq!(plan(&largest).1, Ok(()));
