@@ -8,7 +8,7 @@ use crate::print::field;
 use crate::print::hex;
 use crate::print::number;
 use crate::print::word;
-use crate::written::show_written;
+use crate::written::show_rewritten;
 use libc::STDIN_FILENO;
 use mesh::Link;
 use mesh::Mesh;
@@ -47,7 +47,7 @@ fn show_book(book: &[u8], room: usize, link: u16) -> bool {
     answer(a);
     let m = d.mesh;
     show_mesh(m);
-    let shown = show_written(m, room);
+    let shown = show_rewritten(book, room);
     word(b"record");
     answer(codec::record_answer(book, link));
     hex(b"part", codec::record_bytes(book, link));

@@ -8,6 +8,7 @@ use crate::input::next_two;
 use crate::print::form;
 use crate::print::word;
 use crate::session::show_route;
+use crate::session::store;
 use clients::list::make_calls;
 use recovery::Session;
 
@@ -78,12 +79,6 @@ fn hold(
     store(lent, held, lent_letter(letter));
     store_number(numbers, held, next_number(letter));
     held + 1
-}
-
-fn store(entries: &mut [u8], i: usize, v: u8) {
-    if i < entries.len() {
-        entries[i] = v;
-    }
 }
 
 fn store_number(entries: &mut [u32], i: usize, v: u32) {

@@ -11,6 +11,7 @@ use crate::print::form;
 use crate::print::number;
 use crate::print::refused;
 use crate::print::word;
+use clients::session::begin;
 use flood::Flood;
 use mesh::Answer;
 use mesh::Link;
@@ -30,9 +31,11 @@ pub(crate) fn first_session(m: Mesh) -> Session {
 }
 
 fn own_plan(m: Mesh) -> Session {
-    let p = planner::plan(m);
-    let plan = p.plan;
-    started(m, plan)
+    let begun = begin(m);
+    let a = begun.starting;
+    word(b"start");
+    answer(a);
+    begun.session
 }
 
 pub(crate) fn started(m: Mesh, plan: Plan) -> Session {
@@ -50,7 +53,8 @@ fn read_plan() -> Plan {
     Plan { directions }
 }
 
-fn store(entries: &mut [u8], i: usize, v: u8) {
+// Stores v at index i where there is one.
+pub(crate) fn store(entries: &mut [u8], i: usize, v: u8) {
     if i < entries.len() {
         entries[i] = v;
     }

@@ -1,10 +1,12 @@
-// A mesh encoded.
+// A mesh encoded, and a book decoded and encoded again.
 use crate::case::MOST_BYTES;
 use crate::print::answer;
 use crate::print::end;
 use crate::print::field;
 use crate::print::hex;
 use crate::print::word;
+use clients::book::rewrite;
+use codec::Encoded;
 use mesh::Mesh;
 
 // Encodes m into `room` bytes a5, and shows them afterwards.
@@ -17,12 +19,30 @@ fn write_into(m: Mesh, out: &mut [u8], room: usize) -> bool {
     if out.len() < room {
         return false;
     }
-    let e = codec::encode(m, &mut out[0..room]);
+    show_encoded(codec::encode(m, &mut out[0..room]));
+    hex(b"out", &out[0..room]);
+    true
+}
+
+// Decodes the book and encodes its mesh in the same way.
+pub(crate) fn show_rewritten(book: &[u8], room: usize) -> bool {
+    let mut space = [0xa5u8; MOST_BYTES];
+    rewrite_into(book, &mut space, room)
+}
+
+fn rewrite_into(book: &[u8], out: &mut [u8], room: usize) -> bool {
+    if out.len() < room {
+        return false;
+    }
+    show_encoded(rewrite(book, &mut out[0..room]));
+    hex(b"out", &out[0..room]);
+    true
+}
+
+fn show_encoded(e: Encoded) {
     let a = e.answer;
     word(b"write");
     answer(a);
     field(b"length", e.length as u64);
     end();
-    hex(b"out", &out[0..room]);
-    true
 }
