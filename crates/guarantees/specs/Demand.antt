@@ -1,9 +1,10 @@
--- Demand 3: what holds of a planned mesh and any list of calls, as one statement. Definitions only.
+-- Demand 2's promise for one call on any session, and demand 3's for a planned mesh and any list of calls, each as one statement. Definitions only.
 use Prim.Native.Nat.{ℕ, _*_, _-_, _<_, _≤_}
 use mathlib.Core.Path.{_≡_}
 use mathlib.Core.Logic.{_⊎_, _↔_}
 use mathlib.Core.Bool.{true}
 use mathlib.Core.List.{List, _∷_, _++_, map, List·Memᴰ}
+use lib.ListN.{length}
 use Rattle.scan.specs.Entry.{at, has}
 use Rattle.scan.specs.Distinct.{Distinct}
 use Rattle.flood.specs.Digraph.{Digraph}
@@ -15,8 +16,8 @@ use Rattle.recovery.specs.declared.Cut.the-variants.{Link}
 use Rattle.recovery.specs.declared.Session.{Session}
 use Rattle.recovery.specs.Formed.{recordAnswer}
 use Rattle.recovery.specs.Calls.{backup, digraph, started, afterDelivery}
-use Rattle.guarantees.specs.History.{Call, Log, after, answers, reply, accepted, emptyLog, logged}
-use Rattle.guarantees.specs.Rules.{Now, start, ruled, ruleReply}
+use Rattle.guarantees.specs.History.{Call, Log, reply, next, after, answers, accepted, emptyLog, logged}
+use Rattle.guarantees.specs.Rules.{Now, start, ruleNext, ruleReply, ruled}
 
 module _ (s : Session) where
   -- link i is under way; none is; link i is taken
@@ -49,6 +50,28 @@ module _ (s : Session) where
     pub cut : s .cut ≡ n .cut
     pub state : (i : ℕ) → at (s .flood .states) i ≡ n .state i
     pub reached : (v : ℕ) → has (s .flood .reached) v ≡ n .reached v
+
+  -- the lengths of a session's states and reached nodes, which the types of its record ensure: every session that a function is given has them
+  pub record Sized : Type 0 where
+    pub states : length (s .flood .states) ≡ 256
+    pub reached : length (s .flood .reached) ≡ 64
+
+  -- what the session holds, in the words of the rules: the cut link or none, the state of each link, and which nodes are reached
+  abbrev pub seen : Now
+  seen = record { cut = s .cut; state = at (s .flood .states); reached = has (s .flood .reached) }
+
+-- ---- one call
+
+-- call c on session s does what the rules say
+pub record CallFollows (s : Session) (c : Call) : Type 0 where
+  -- the session that it returns or leaves holds the same mesh and plan, and the cut, states and reached nodes that the rules make of those in s
+  pub mesh : next c s .mesh ≡ s .mesh
+  pub plan : next c s .plan ≡ s .plan
+  pub follows : Follows (next c s) (ruleNext (digraph s) c (seen s))
+  -- it answers what the rules give
+  pub answered : reply c s ≡ ruleReply (digraph s) c (seen s)
+
+-- ---- a list of calls
 
 -- the session that a start on m and its plan gives
 abbrev pub startedOn : Mesh → Session

@@ -69,6 +69,14 @@ refused (mend w k) a = isRefusal a
 refused (status k) (statuses.Link state underWay route) = false
 refused (status k) (statuses.Refused number place) = true
 
+-- the answer that refuses a call with this number at this place
+abbrev pub refusedAt : (c : Call) → ℕ → ℕ → Reply c
+refusedAt (cut w k) number place = Refused number place
+refusedAt (deliver w k) number place = delivered.Refused number place
+refusedAt (run n) number place = report.Refused number place
+refusedAt (mend w k) number place = Refused number place
+refusedAt (status k) number place = statuses.Refused number place
+
 -- the session after the calls, each on the session as the one before returned or left it
 unfoldable pub after : List Call → Session → Session
 after [] s = s

@@ -32,9 +32,10 @@ use Rattle.recovery.specs.WellFormed.{PlanFormed, Formed}
 use Rattle.recovery.specs.WellFormed as formed
 use Rattle.recovery.specs.Laws.Forming.{start-formed, refused-start, record-formed, refused-record}
 use Rattle.recovery.specs.Calls.{digraph, routeOf}
-use Rattle.guarantees.specs.History.{Call, reply, next, refused}
-use Rattle.guarantees.specs.Demand.{Demand3, AtRest, OnePath, ended, log}
-use Rattle.guarantees.specs.Laws.Refused.{refused-keeps}
+use Rattle.guarantees.specs.History.{Call, reply, next, refused, refusedAt}
+use Rattle.guarantees.specs.Demand.{Sized, CallFollows, Demand3, AtRest, OnePath, ended, log}
+use Rattle.guarantees.specs.Laws.Refused.{refused-keeps, record-refusal-answers}
+use Rattle.guarantees.specs.Laws.Ruled.{call-as-ruled}
 use Rattle.guarantees.specs.Laws.Recovered.{demand-3}
 use Rattle.guarantees.specs.Laws.Routed.{demand-route}
 use Rattle.guarantees.specs.Bench.{Row, table, Holds}
@@ -129,6 +130,17 @@ record-refuses s number place = refused-record s
 -- a refused call leaves the session as it was, by value or in place, whatever the session
 pub refused-unaltered : (c : Call) (s : Session) → refused c (reply c s) ≡ true → next c s ≡ s
 refused-unaltered = refused-keeps
+
+-- a call first tests its record: where that is refused, every call answers with the same number and place
+pub call-refuses : (s : Session) (number place : ℕ) → recordAnswer s ≡ Refused number place → (c : Call) → reply c s ≡ refusedAt c number place
+call-refuses = record-refusal-answers
+
+-- ---- demand 2: the recovery calls, on every session (contracts: crates/recovery/src/lib.rt and crates/recovery/src/in_place.rt)
+
+-- on any session whose record is accepted, whatever led to it, every call, by value or in place, refused or not, does what 01's rules say: they give
+-- its answer, and the cut, states and reached nodes of the session that it returns or leaves, on the same mesh and plan
+pub call-follows : (s : Session) → Sized s → recordAnswer s ≡ Accepted → (c : Call) → CallFollows s c
+call-follows = call-as-ruled
 
 -- ---- demand 3, over every list of calls (contracts: crates/recovery/src/lib.rt, the calls of `Session`, and crates/recovery/src/in_place.rt, those
 -- of them on a session that the host lends)

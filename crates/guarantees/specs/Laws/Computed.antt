@@ -17,21 +17,22 @@ use Rattle.flood.specs.Machine.{fresh, underWay, live, offer, feeds, first, som
 use Rattle.flood.specs.Machine.{holds as holds′, accepted as deliveredCount, run as machineRun}
 use Rattle.recovery.specs.Formed.{isOver, overflows, isStray, strays, planFault, floodFault, startAnswer}
 use Rattle.recovery.specs.Formed.{recordAnswer as recordSession}
-use Rattle.recovery.specs.Calls.{started, cutAnswer, afterCut, deliverAnswer, afterDelivery, runAnswer, afterRun}
+use Rattle.recovery.specs.Calls.{started, cutAnswer, afterCut, deliverAnswer, afterDelivery, runAnswer, afterRun, routeOf, routed}
+use Rattle.flood.specs.Topology.{carries, routeFrom}
 use Rattle.guarantees.specs.History.{after}
-use Rattle.guarantees.specs.Demand.{startedOn}
-use Rattle.guarantees.specs.Bench.{Row, table, turns, passing, takenIn, Holds}
+use Rattle.guarantees.specs.Bench.{Row, table, turns, passing, takenIn, callsOf, startOf, endOf, Holds}
 use Rattle.guarantees.specs.Laws.Same.{sameDecoded, same-decoded, samePlanned, same-planned, sameNumbers, same-numbers}
-
--- what the row says of its calls
-abbrev callsHold : Row → Bool
-callsHold r =
-    let m = decoded (r .book) .mesh in
-    sameNumbers (turns (r .calls) (startedOn m)) (r .delivered) && sameNumbers (takenIn (after (r .calls) (startedOn m))) (r .taken)
+use Rattle.guarantees.specs.Laws.Same.{sameReplies, same-replies, sameRouted, same-routed}
 
 -- the row holds of the definitions
 abbrev holds : Row → Bool
-holds r = sameDecoded (decoded (r .book)) (r .reading) && (samePlanned (planned (decoded (r .book) .mesh)) (r .planning) && callsHold r)
+holds r =
+    sameDecoded (decoded (r .book)) (r .reading)
+    && (samePlanned (planned (decoded (r .book) .mesh)) (r .planning)
+    && (sameReplies (r .recovery .answered) (startOf r)
+    && (sameNumbers (turns (callsOf r) (startOf r)) (r .recovery .delivered)
+    && (sameNumbers (takenIn (endOf r)) (r .recovery .taken)
+    && sameRouted (routed (endOf r)) (r .recovery .routing)))))
 
 abbrev allHold : List Row → Bool
 allHold [] = true
@@ -50,7 +51,7 @@ unfolding decoded bookAnswer headerAnswer recordsAnswer recordAnswer recordLengt
     plan firstThat assignments
     started startAnswer planFault floodFault overflows isOver strays isStray recordSession afterCut cutAnswer afterDelivery deliverAnswer afterRun runAnswer
     turns passing after fresh begin offer sweep sweepFrom leaves opens step arrive withdraw retreat accepts underWay live holds′ feeds first some atRest
-    order play deliveredCount machineRun total count
+    order play deliveredCount machineRun total count carries routeFrom routeOf routed
 computed = refl
 
 pub row-holds : (r : Row) → List·Memᴰ r table → Holds r
@@ -58,10 +59,14 @@ row-holds r o =
     let m = decoded (r .book) .mesh in
     let (read, e1) = and-eq-true-iff (sameDecoded (decoded (r .book)) (r .reading)) _ .0 (each table computed r o) in
     let (plan, e2) = and-eq-true-iff (samePlanned (planned m) (r .planning)) _ .0 e1 in
-    let (turn, took) = and-eq-true-iff (sameNumbers (turns (r .calls) (startedOn m)) (r .delivered)) _ .0 e2 in
+    let (said, e3) = and-eq-true-iff (sameReplies (r .recovery .answered) (startOf r)) _ .0 e2 in
+    let (turn, e4) = and-eq-true-iff (sameNumbers (turns (callsOf r) (startOf r)) (r .recovery .delivered)) _ .0 e3 in
+    let (took, path) = and-eq-true-iff (sameNumbers (takenIn (endOf r)) (r .recovery .taken)) _ .0 e4 in
     record {
       reads = same-decoded (decoded (r .book)) (r .reading) read;
       plans = same-planned (planned m) (r .planning) plan;
-      delivers = same-numbers (turns (r .calls) (startedOn m)) (r .delivered) turn;
-      takes = same-numbers (takenIn (after (r .calls) (startedOn m))) (r .taken) took;
+      replies = same-replies (r .recovery .answered) (startOf r) said;
+      delivers = same-numbers (turns (callsOf r) (startOf r)) (r .recovery .delivered) turn;
+      takes = same-numbers (takenIn (endOf r)) (r .recovery .taken) took;
+      routes = same-routed (routed (endOf r)) (r .recovery .routing) path;
     }

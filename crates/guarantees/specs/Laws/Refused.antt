@@ -1,4 +1,5 @@
--- A refused call leaves the session as it was, whatever the session and the form of the call.
+-- A refused call leaves the session as it was, and a call on a session whose record is refused answers that refusal, whatever the session and the form of
+-- the call. Assumes nothing.
 use Prim.Native.Nat.{ℕ}
 use mathlib.Core.Path.{_≡_, refl, ap}
 use mathlib.Core.Bool.{true, not}
@@ -9,8 +10,10 @@ use Rattle.mesh.specs.declared.Answer.the-variants.{Accepted, Refused}
 use Rattle.flood.specs.declared.Flood.{Flood}
 use Rattle.flood.specs.Machine as machine
 use Rattle.recovery.specs.declared.Session.{Session}
-use Rattle.recovery.specs.Calls.{digraph, cutAnswer, deliverAnswer, runAnswer, mendAnswer, change, deliveryAs, runAs, afterCut, afterDelivery, afterRun, afterMend}
-use Rattle.guarantees.specs.History.{Call, cut, deliver, run, mend, status, reply, next, accepted, isRefusal, refused}
+use Rattle.recovery.specs.Formed.{recordAnswer}
+use Rattle.recovery.specs.Calls.{digraph, cutAnswer, deliverAnswer, runAnswer, mendAnswer, statusAnswer, change, deliveryAs, runAs}
+use Rattle.recovery.specs.Calls.{afterCut, afterDelivery, afterRun, afterMend, statusOf}
+use Rattle.guarantees.specs.History.{Call, cut, deliver, run, mend, status, reply, next, accepted, isRefusal, refused, refusedAt}
 use Rattle.guarantees.specs.Laws.Kept.{acted-accepted}
 
 change-keeps : (a : Answer) (s t : Session) → isRefusal (change a s t .answer) ≡ true → change a s t .session ≡ s
@@ -32,3 +35,12 @@ refused-keeps (deliver w k) s e = delivery-keeps (deliverAnswer s k) s k _ e
 refused-keeps (run n) s e = run-keeps n (runAnswer s) s _ e
 refused-keeps (mend w k) s e = change-keeps (mendAnswer s k) s _ e
 refused-keeps (status k) s e = refl
+
+-- the record's refusal comes before all others
+pub record-refusal-answers : (s : Session) (number place : ℕ) → recordAnswer s ≡ Refused number place → (c : Call) → reply c s ≡ refusedAt c number place
+unfolding afterCut afterDelivery afterRun afterMend statusOf cutAnswer deliverAnswer runAnswer mendAnswer statusAnswer
+record-refusal-answers s number place e (cut w k) = rw (e, reply)
+record-refusal-answers s number place e (deliver w k) = rw (e, reply)
+record-refusal-answers s number place e (run n) = rw (e, reply)
+record-refusal-answers s number place e (mend w k) = rw (e, reply)
+record-refusal-answers s number place e (status k) = rw (e, reply)

@@ -11,8 +11,8 @@ use Rattle.recovery.specs.Formed.{recordAnswer}
 use Rattle.recovery.specs.Calls.{backup, digraph, freshOn}
 use Rattle.guarantees.specs.History.{Call, reply, next, after}
 use Rattle.guarantees.specs.Rules.{Now, start, ruleNext, ruleReply, ruled}
-use Rattle.guarantees.specs.Demand.{Follows}
-use Rattle.guarantees.specs.Laws.RuledCalls.{Sized, seen, fresh-seen}
+use Rattle.guarantees.specs.Demand.{Follows, Sized, seen, CallFollows}
+use Rattle.guarantees.specs.Laws.RuledCalls.{fresh-seen}
 use Rattle.guarantees.specs.Laws.RuledNext.{next-mesh-plan, next-sized, next-seen}
 use Rattle.guarantees.specs.Laws.RuledReply.{reply-seen}
 
@@ -35,6 +35,12 @@ module _ (s : Session) (n : Now) (z : Sized s) (r : recordAnswer s ≡ Accepted)
 
   pub next-follows : (c : Call) → Follows (next c s) (ruleNext (digraph s) c n)
   next-follows c = seen-follows (next-seen s z r c ∙ ap (ruleNext (digraph s) c) (follows-seen F))
+
+-- from what the session holds
+pub call-as-ruled : (s : Session) → Sized s → recordAnswer s ≡ Accepted → (c : Call) → CallFollows s c
+call-as-ruled s z r c =
+    let (mesh, plan) = next-mesh-plan c s in
+    record { mesh = mesh; plan = plan; follows = seen-follows (next-seen s z r c); answered = reply-seen s z r c }
 
 -- ---- a list of calls
 

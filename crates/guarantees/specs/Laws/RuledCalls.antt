@@ -4,7 +4,7 @@ use mathlib.Core.Path.{_≡_, refl}
 use mathlib.Core.Bool.{true, false}
 use native.Mathlib.Omega.{arith}
 use lib.Dec.{eqb}
-use lib.ListN.{length, getD}
+use lib.ListN.{getD}
 use Rattle.scan.specs.Test.{branch, clash}
 use Rattle.scan.specs.Entry.{replicate-at}
 use Rattle.mesh.specs.declared.Mesh.{Mesh}
@@ -23,20 +23,12 @@ use Rattle.recovery.specs.Formed.{startAnswer, recordAnswer}
 use Rattle.recovery.specs.Calls.{digraph, failureOf, failure, standing, isCut, withFlood, freshOn, cutOn}
 use Rattle.recovery.specs.Calls.{cutAnswer, deliverAnswer, runAnswer, mendAnswer, statusAnswer}
 use Rattle.guarantees.specs.History.{Form, Call, cut, deliver, run, mend, status}
-use Rattle.guarantees.specs.Rules.{Now, start, stands, names, refusal, effect, runMade}
+use Rattle.guarantees.specs.Rules.{start, stands, names, refusal, effect, runMade}
+use Rattle.guarantees.specs.Demand.{Sized, seen}
 use Rattle.recovery.specs.Laws.Tested.{cut-accepted, deliver-accepted, run-accepted}
 use Rattle.guarantees.specs.Laws.RuledTests.{shown, rest-is}
 use Rattle.guarantees.specs.Laws.RuledSteps.{begin-ruled, step-ruled}
 use Rattle.guarantees.specs.Laws.RuledRun.{run-ruled}
-
--- the lengths of the lists that calls store in
-pub record Sized (s : Session) : Type 0 where
-  pub states : length (s .flood .states) ≡ 256
-  pub reached : length (s .flood .reached) ≡ 64
-
--- what the rules see of a session
-abbrev pub seen : Session → Now
-seen s = shown (s .cut) (s .flood)
 
 -- what a call answers to its tests, and the session that it makes where they pass
 abbrev pub answerOf : Call → Session → Answer

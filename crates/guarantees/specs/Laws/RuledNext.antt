@@ -19,7 +19,8 @@ use Rattle.recovery.specs.Formed.{recordAnswer}
 use Rattle.recovery.specs.Calls.{digraph, failure, freshOn, withFlood, change, deliveryAs, runAs, afterCut, afterDelivery, afterRun, afterMend}
 use Rattle.guarantees.specs.History.{Call, cut, deliver, run, mend, status, next}
 use Rattle.guarantees.specs.Rules.{Now, effect, changedBy, ruleNext}
-use Rattle.guarantees.specs.Laws.RuledCalls.{Sized, seen, answerOf, made, refusal-is, made-seen}
+use Rattle.guarantees.specs.Demand.{Sized, seen}
+use Rattle.guarantees.specs.Laws.RuledCalls.{answerOf, made, refusal-is, made-seen}
 
 -- every call, as a cut or a mend, hands the session back where it refuses
 next-is : (c : Call) (s : Session) → next c s ≡ change (answerOf c s) s (made c s) .session

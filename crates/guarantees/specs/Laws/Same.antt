@@ -1,16 +1,28 @@
--- Computed equality of answers, meshes, what reading gives and what planning gives: where the test passes, the two are equal. Assumes nothing.
+-- Computed equality of answers, meshes and what reading, planning, each call and the route query give: where the test passes, the two are equal.
+-- Assumes nothing.
 use Prim.Native.Nat.{ℕ}
-use mathlib.Core.Path.{_≡_, refl}
-use mathlib.Core.Bool.{Bool, true, false, _&&_, false≢true, and-eq-true-iff}
-use mathlib.Core.List.{List, [], _∷_}
+use mathlib.Core.Path.{_≡_, refl, sym, _∙_, ap}
+use mathlib.Core.Bool.{Bool, true, false, cond, _&&_, false≢true, and-eq-true-iff}
+use mathlib.Core.List.{List, [], _∷_, map}
 use lib.Dec.{eqb}
 use borrow.Author.Tests.{eqb-true}
+use Rattle.scan.specs.Entry.{at}
+use Rattle.scan.specs.Total.{bit}
 use Rattle.mesh.specs.declared.Link.{Link}
 use Rattle.mesh.specs.declared.Mesh.{Mesh}
 use Rattle.mesh.specs.declared.Answer.{Answer}
 use Rattle.mesh.specs.declared.Answer.the-variants.{Accepted, Refused}
 use Rattle.codec.specs.declared.Decoded.{Decoded}
 use Rattle.planner.specs.declared.Planned.{Planned}
+use Rattle.recovery.specs.declared.Session.{Session}
+use Rattle.recovery.specs.declared.Delivered.{Delivered}
+use Rattle.recovery.specs.declared.Delivered.the-variants as delivered
+use Rattle.recovery.specs.declared.Report.{Report}
+use Rattle.recovery.specs.declared.Report.the-variants as report
+use Rattle.recovery.specs.declared.Status.{Status}
+use Rattle.recovery.specs.declared.Status.the-variants as statuses
+use Rattle.recovery.specs.declared.Routed.{Routed}
+use Rattle.guarantees.specs.History.{Call, Reply, Answered, cut, deliver, run, mend, status, reply, next, answers}
 
 abbrev pub sameLink : Link → Link → Bool
 sameLink a b = eqb (a .low) (b .low) && (eqb (a .high) (b .high) && (eqb (a .length) (b .length) && eqb (a .pair) (b .pair)))
@@ -84,3 +96,99 @@ same-planned a b e =
       plan = record { directions = same-numbers (a .plan .directions) (b .plan .directions) plan j };
       answer = same-answer (a .answer) (b .answer) answer j;
     }
+
+abbrev pub sameRouted : Routed → Routed → Bool
+sameRouted a b =
+    eqb (a .route .length) (b .route .length) && (sameNumbers (a .route .links) (b .route .links) && sameAnswer (a .answer) (b .answer))
+
+pub same-routed : (a b : Routed) → sameRouted a b ≡ true → a ≡ b
+same-routed a b e =
+    let (length, e1) = and-eq-true-iff (eqb (a .route .length) (b .route .length)) _ .0 e in
+    let (links, answer) = and-eq-true-iff (sameNumbers (a .route .links) (b .route .links)) _ .0 e1 in
+    λ j. record {
+      route = record { links = same-numbers (a .route .links) (b .route .links) links j; length = eqb-true (a .route .length) (b .route .length) length j };
+      answer = same-answer (a .answer) (b .answer) answer j;
+    }
+
+-- ---- what a call answers: as numbers, from which it can be read back
+
+same-coded : {A : Type 0} (code : A → List ℕ) (back : List ℕ → A) → ((a : A) → back (code a) ≡ a) → (a b : A)
+    → sameNumbers (code a) (code b) ≡ true → a ≡ b
+same-coded code back inverse a b e = sym (inverse a) ∙ ap back (same-numbers (code a) (code b) e) ∙ inverse b
+
+abbrev deliveredNumbers : Delivered → List ℕ
+deliveredNumbers (delivered.Taken v) = 0 ∷ v ∷ []
+deliveredNumbers (delivered.TurnedBack v) = 1 ∷ v ∷ []
+deliveredNumbers (delivered.Released v) = 2 ∷ v ∷ []
+deliveredNumbers (delivered.Refused number place) = 3 ∷ number ∷ place ∷ []
+
+same-delivered : (a b : Delivered) → sameNumbers (deliveredNumbers a) (deliveredNumbers b) ≡ true → a ≡ b
+same-delivered = same-coded deliveredNumbers back inverse
+  where
+    back : List ℕ → Delivered
+    back l =
+        cond (eqb (at l 0) 0) (delivered.Taken (at l 1))
+        (cond (eqb (at l 0) 1) (delivered.TurnedBack (at l 1))
+        (cond (eqb (at l 0) 2) (delivered.Released (at l 1))
+        (delivered.Refused (at l 1) (at l 2))))
+
+    inverse : (a : Delivered) → back (deliveredNumbers a) ≡ a
+    inverse (delivered.Taken v) = refl
+    inverse (delivered.TurnedBack v) = refl
+    inverse (delivered.Released v) = refl
+    inverse (delivered.Refused number place) = refl
+
+abbrev reportNumbers : Report → List ℕ
+reportNumbers (report.Made count rest) = 0 ∷ count ∷ bit rest ∷ []
+reportNumbers (report.Refused number place) = 1 ∷ number ∷ place ∷ []
+
+same-report : (a b : Report) → sameNumbers (reportNumbers a) (reportNumbers b) ≡ true → a ≡ b
+same-report = same-coded reportNumbers back inverse
+  where
+    back : List ℕ → Report
+    back l = cond (eqb (at l 0) 0) (report.Made (at l 1) (eqb (at l 2) 1)) (report.Refused (at l 1) (at l 2))
+
+    inverse : (a : Report) → back (reportNumbers a) ≡ a
+    inverse (report.Made count true) = refl
+    inverse (report.Made count false) = refl
+    inverse (report.Refused number place) = refl
+
+abbrev statusNumbers : Status → List ℕ
+statusNumbers (statuses.Link state underWay route) = 0 ∷ state ∷ underWay ∷ route ∷ []
+statusNumbers (statuses.Refused number place) = 1 ∷ number ∷ place ∷ []
+
+same-status : (a b : Status) → sameNumbers (statusNumbers a) (statusNumbers b) ≡ true → a ≡ b
+same-status = same-coded statusNumbers back inverse
+  where
+    back : List ℕ → Status
+    back l = cond (eqb (at l 0) 0) (statuses.Link (at l 1) (at l 2) (at l 3)) (statuses.Refused (at l 1) (at l 2))
+
+    inverse : (a : Status) → back (statusNumbers a) ≡ a
+    inverse (statuses.Link state underWay route) = refl
+    inverse (statuses.Refused number place) = refl
+
+abbrev sameReply : (c : Call) → Reply c → Reply c → Bool
+sameReply (cut w k) a b = sameAnswer a b
+sameReply (deliver w k) a b = sameNumbers (deliveredNumbers a) (deliveredNumbers b)
+sameReply (run n) a b = sameNumbers (reportNumbers a) (reportNumbers b)
+sameReply (mend w k) a b = sameAnswer a b
+sameReply (status k) a b = sameNumbers (statusNumbers a) (statusNumbers b)
+
+same-reply : (c : Call) (a b : Reply c) → sameReply c a b ≡ true → a ≡ b
+same-reply (cut w k) = same-answer
+same-reply (deliver w k) = same-delivered
+same-reply (run n) = same-report
+same-reply (mend w k) = same-answer
+same-reply (status k) = same-status
+
+-- the answers to calls, each made on the session as the one before returned or left it
+abbrev pub sameReplies : List Answered → Session → Bool
+sameReplies [] s = true
+sameReplies ((c, a) ∷ rest) s = sameReply c (reply c s) a && sameReplies rest (next c s)
+
+pub same-replies : (l : List Answered) (s : Session) → sameReplies l s ≡ true → answers (map (λ (a : Answered). a .0) l) s ≡ l
+unfolding answers
+same-replies [] s e = refl
+same-replies ((c, a) ∷ rest) s e =
+    let (first, others) = and-eq-true-iff (sameReply c (reply c s) a) _ .0 e in
+    λ j. (c, same-reply c (reply c s) a first j) ∷ same-replies rest (next c s) others j
