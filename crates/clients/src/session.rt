@@ -1,5 +1,6 @@
 // Where the lists of demand 3 begin, and what one cut leads to.
 ghost use mathlib.Core.Path.{_≡_};
+ghost use Rattle.guarantees.specs.Demand.{Sized};
 ghost use Rattle.clients.specs.Sessions.{begun, recovered};
 use crate::Begun;
 use crate::Recovered;
@@ -26,9 +27,10 @@ pub fn begin(m: Mesh) -> Begun
     }
 }
 
-// Cuts a link on a session, lets it run, and asks for the route.
+// Cuts a link on a session, lets it run, and asks for the route. The lists of a session that a function is given have the lengths that `Sized` says.
 pub fn recover(s: Session, link: u16) -> Recovered
-    ensures { λ r. ⌜ r ≡ recovered s link ⌝ }
+    ensures value { λ r. ⌜ r ≡ recovered s link ⌝ }
+    ensures sized { λ _. ⌜ Sized s ⌝ }
 {
     let changed = s.cut(link);
     let cut = changed.session;

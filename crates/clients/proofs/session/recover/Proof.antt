@@ -1,9 +1,18 @@
 -- `clients::session::recover` meets its contract: its calls are those of the list "cut, run", and then the route query.
+use mathlib.Core.Path.{_≡_, _∙_, ap}
+use Rattle.scan.specs.Part.{length-mapped}
+use Rattle.recovery.specs.declared.Change.{Change}
+use Rattle.recovery.specs.Calls.{afterCut, afterRun}
 use Rattle.guarantees.specs.History.{after}
+use Rattle.guarantees.specs.Demand.{Sized}
 use Rattle.clients.specs.Sessions.{recovered}
 use borrow.Author.Needs.{needs}
 use Rattle.clients.proofs.session.recover.Statement.{statement}
 use Rattle.clients.proofs.session.recover.Tie as tie
+
+-- what owning s tells
+sized : (c : tie.Start) → Sized (c .args .s)
+sized c = record { states = search length-mapped; reached = search length-mapped }
 
 cut-requires : tie.Need-cut-requires
 cut-requires c κs = search needs
@@ -16,7 +25,12 @@ route-requires c κs = search needs
 
 returns : tie.Need-returns
 unfolding recovered after
-returns c = rw (c .route .ensures, c .before .before .run .ensures, c .before .before .before .before .cut .ensures)
+returns c =
+    let run = c .before .before in
+    let cut = run .before .before in
+    let ran : run .run .result ≡ afterRun (afterCut (cut .before .args .s) (cut .before .args .link) .session) 4294967295 =
+    run .run .ensures ∙ ap (λ (d : Change). afterRun (d .session) 4294967295) (cut .cut .ensures) in
+    (rw (c .route .ensures, ran), sized (cut .before))
 
 pub recover-spec : {M : Type 1} → statement M
 recover-spec = tie.close (tie.spec cut-requires run-requires route-requires returns)
