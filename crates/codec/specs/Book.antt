@@ -12,7 +12,7 @@ use Rattle.mesh.specs.declared.Answer.the-variants.{Accepted, Refused}
 use Rattle.mesh.specs.Mesh.{must, andThen, zeroLink, zeroMesh, nodesFit, countFits, meshAnswer}
 use Rattle.codec.specs.declared.Decoded.{Decoded}
 use Rattle.codec.specs.declared.Encoded.{Encoded}
-use Rattle.codec.specs.declared.Span.{Span}
+use Rattle.codec.specs.declared.locate.Span.{Span}
 use Rattle.codec.specs.Record.{recordOf, recordLength, linkOf, recordAnswer}
 
 -- ---- writing

@@ -30,13 +30,6 @@ pub struct Encoded {
     pub answer: Answer,
 }
 
-// Where a record stands in its book: from start up to, not including, end.
-pub struct Span {
-    pub start: usize,
-    pub end: usize,
-    pub answer: Answer,
-}
-
 // 01's reading: the mesh of a book.
 pub fn decode(book: &[u8]) -> Decoded
     ensures { λ r. ⌜ r ≡ decoded (now (book .entry)) ⌝ }
