@@ -12,7 +12,7 @@ use Rattle.mesh.specs.declared.Answer.the-variants.{Accepted, Refused}
 use Rattle.mesh.specs.Mesh.{must, andThen, zeroLink, zeroMesh, nodesFit, countFits, meshAnswer}
 use Rattle.codec.specs.declared.Decoded.{Decoded}
 use Rattle.codec.specs.declared.Encoded.{Encoded}
-use Rattle.codec.specs.declared.Span.{Span}
+use Rattle.codec.specs.declared.locate.Span.{Span}
 use Rattle.codec.specs.Record.{recordOf, recordLength, linkOf, recordAnswer}
 
 -- ---- writing
@@ -126,3 +126,7 @@ spanOf s k = spanAs (spanAnswer s k) (recordStart s k) (recordLength (getD s (re
 -- the bytes of the record of link k as they stand in the book, the empty part on a refusal
 unfoldable pub recordPart : List ℕ → ℕ → List ℕ
 recordPart s k = take (spanOf s k .end - spanOf s k .start) (drop (spanOf s k .start) s)
+
+-- the pointer n bytes past the pointer p: the same block of memory, n bytes further on
+abbrev pub offset : ℕ → ℕ × ℕ → ℕ × ℕ
+offset n p = (p .0, n + p .1)

@@ -3,6 +3,7 @@ pub mod Reading
 pub mod Locate
 pub mod Fields
 pub mod Written
+pub mod Shown
 pub mod Read
 pub mod Writing
 pub mod Needless

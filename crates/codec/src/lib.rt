@@ -1,7 +1,7 @@
 // The codec of the book: decode, encode, and the bytes of one record.
 ghost use mathlib.Core.Path.{_≡_};
 ghost use lib.ListN.{length};
-ghost use Rattle.codec.specs.Book.{decoded, encoded, outputAfter, spanAnswer, recordPart};
+ghost use Rattle.codec.specs.Book.{decoded, encoded, outputAfter, spanAnswer, spanOf, recordPart, offset};
 
 mod header;
 mod layout;
@@ -27,13 +27,6 @@ pub struct Decoded {
 // What writing gives: the length of the book, 0 on a refusal.
 pub struct Encoded {
     pub length: usize,
-    pub answer: Answer,
-}
-
-// Where a record stands in its book: from start up to, not including, end.
-pub struct Span {
-    pub start: usize,
-    pub end: usize,
     pub answer: Answer,
 }
 
@@ -89,12 +82,14 @@ pub fn record_answer(book: &[u8], link: u16) -> Answer
     found.answer
 }
 
-// The bytes of a link's record as they stand in the book, the empty part on a refusal.
+// The bytes of a link's record as they stand in the book: the part of the caller's own slice that starts where the record
+// does, the empty part on a refusal. Equal bytes elsewhere in the book are not the record.
 pub fn record_bytes(book: &[u8], link: u16) -> &[u8]
-    ensures { λ r. ⌜ now r ≡ recordPart (now (book .entry)) link ⌝ }
+    ensures place { λ r. ⌜ r .ptr ≡ offset (spanOf (now (book .entry)) link .start) (book .entry .ptr) ⌝ }
+    ensures bytes { λ r. ⌜ now r ≡ recordPart (now (book .entry)) link ⌝ }
 {
-    let found = locate::find_record(book, link);
-    let start = found.start;
-    let end = found.end;
+    let span = locate::find_record(book, link);
+    let start = span.start;
+    let end = span.end;
     &book[start..end]
 }

@@ -1,5 +1,4 @@
 // Where one link's record stands in a book.
-use crate::Span;
 use crate::decode;
 use crate::layout::record_length;
 use mesh::Answer;
@@ -9,6 +8,13 @@ ghost use lib.ListN.{length, getD};
 ghost use Rattle.mesh.specs.declared.Answer.the-variants.{Accepted};
 ghost use Rattle.codec.specs.Record.{recordLength};
 ghost use Rattle.codec.specs.Book.{spanAnswer, spanOf};
+
+// Where a record stands in its book: from start up to, not including, end.
+pub(crate) struct Span {
+    pub start: usize,
+    pub end: usize,
+    pub answer: Answer,
+}
 
 fn refused(answer: Answer) -> Span
     ensures start { λ r. ⌜ r .start ≡ 0 ⌝ }

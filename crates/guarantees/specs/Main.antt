@@ -11,14 +11,16 @@ use Rattle.scan.specs.Bytes.{AreBytes}
 use Rattle.mesh.specs.declared.Mesh.{Mesh}
 use Rattle.mesh.specs.declared.Answer.the-variants.{Accepted, Refused}
 use Rattle.mesh.specs.Mesh.{meshAnswer}
-use Rattle.mesh.specs.WellFormed.{WellFormed, InRange}
-use Rattle.mesh.specs.Refusal.{Refusal}
+use Rattle.mesh.specs.WellFormed.{WellFormed, InRange, link}
+use Rattle.mesh.specs.Refusal.{Refusal, previous}
 use Rattle.mesh.specs.Laws.Checked.{checks}
 use Rattle.mesh.specs.Laws.Refused.{refused-only}
-use Rattle.codec.specs.Book.{bookOf, encoded, outputAfter, decoded}
+use Rattle.codec.specs.Record.{recordOf}
+use Rattle.codec.specs.Book.{bookOf, encoded, outputAfter, decoded, spanAnswer, recordPart}
 use Rattle.codec.specs.Laws.Written.{decoded-output, book-most}
 use Rattle.codec.specs.Laws.Read.{decoded-accepted, decoded-in-range, output-decoded, one-book, accepted-most}
 use Rattle.codec.specs.Laws.Prefix.{decoded-take}
+use Rattle.codec.specs.Laws.Shown.{record-shown}
 use Rattle.graph.specs.Net.{Parted, bothWays, without, First}
 use Rattle.graph.specs.Laws.First.{first-unique}
 use Rattle.planner.specs.Plan.{netOf, planned}
@@ -51,7 +53,7 @@ check-accepts m r = checks m (r .entries)
 pub check-refuses : (m : Mesh) (number place : ℕ) → meshAnswer m ≡ Refused number place → Refusal m number place
 check-refuses = refused-only
 
--- ---- demand 2: reading and writing are inverse (contracts: crates/codec/src/lib.rt, `decode` and `encode`)
+-- ---- demand 2: reading and writing are inverse (contracts: crates/codec/src/lib.rt)
 
 -- decoding what was encoded gives the mesh back
 pub decode-encode : (m : Mesh) (out : List ℕ) → InRange m → encoded m (length out) .answer ≡ Accepted
@@ -75,6 +77,11 @@ decode-checked = decoded-accepted
 
 pub decode-in-range : (s : List ℕ) → AreBytes s → decoded s .answer ≡ Accepted → InRange (decoded s .mesh)
 decode-in-range = decoded-in-range
+
+-- showing the record of a link in the book of a mesh is accepted, and its bytes are that link's record after the link before
+pub record-stands : (m : Mesh) → InRange m → meshAnswer m ≡ Accepted → (k : ℕ) → k < m .count
+    → (spanAnswer (bookOf m) k ≡ Accepted) × (recordPart (bookOf m) k ≡ recordOf (previous m k) (link m k))
+record-stands = record-shown
 
 -- a book has at most 2,308 bytes
 pub book-length : (m : Mesh) → meshAnswer m ≡ Accepted → length (bookOf m) ≤ 2308

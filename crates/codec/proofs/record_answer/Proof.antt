@@ -1,7 +1,7 @@
 -- `codec::record_answer` meets its contract: it is the answer of the span.
 use mathlib.Core.Path.{_∙_, ap}
 use denote.Ref.{now}
-use Rattle.codec.specs.declared.Span.{Span}
+use Rattle.codec.specs.declared.locate.Span.{Span}
 use Rattle.codec.specs.Laws.Locate.{span-answer}
 use borrow.Author.Needs.{needs}
 use Rattle.codec.proofs.record_answer.Statement.{statement}

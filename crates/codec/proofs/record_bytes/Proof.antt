@@ -18,7 +18,7 @@ part-result-end c = search needs
 
 returns : tie.Need-returns
 unfolding recordPart
-returns c = rw (c .before .find-record .ensures .0)
+returns c = let e = c .before .find-record .ensures .0 in (rw e, rw e)
 
 pub record-bytes-spec : {M : Type 1} → statement M
 record-bytes-spec =

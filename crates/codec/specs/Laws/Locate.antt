@@ -14,7 +14,7 @@ use Rattle.mesh.specs.declared.Link.{Link}
 use Rattle.mesh.specs.declared.Answer.the-variants.{Accepted, Refused}
 use Rattle.mesh.specs.Mesh.{zeroLink}
 use Rattle.mesh.specs.Laws.Answer.{must-accepted, andThen-accepted}
-use Rattle.codec.specs.declared.Span.{Span}
+use Rattle.codec.specs.declared.locate.Span.{Span}
 use Rattle.codec.specs.Record.{recordLength, linkOf}
 use Rattle.codec.specs.Book.{spanAs, recordsAnswer, bookAnswer, meshOf, decoded, recordStart, spanAnswer, spanOf}
 use Rattle.codec.specs.Laws.Accepted.{GoodRecord, records-accepted, book-accepted, decoded-mesh}

@@ -84,10 +84,10 @@ module _ (m : Mesh) (r : InRange m) (g : GoodMesh m) where
   abbrev taken : List Link
   taken = take (m .count) (m .links)
 
-  count-most : m .count ≤ 256
+  pub count-most : m .count ≤ 256
   count-most = leb-true _ _ (g .count)
 
-  count-written : number 2 (bookOf m) 2 ≡ m .count
+  pub count-written : number 2 (bookOf m) 2 ≡ m .count
   unfolding bookOf
   count-written = number-bytes 2 (m .count) (bookOf m) 2 (recordsOf zeroLink taken) refl (omega (arith, count-most))
 
@@ -97,7 +97,7 @@ module _ (m : Mesh) (r : InRange m) (g : GoodMesh m) where
       let e : length taken ≡ m .count = length-take-le (m .count) (m .links) (omega (arith, count-most, r .entries)) in
       rw e at (records-written (m .nodes) (length (bookOf m)) zeroLink 4 0 taken (g .links) (each-taken LinkInRange zeroLink (m .links) (m .count) (r .links)))
 
-  book-written : bookAnswer (bookOf m) ≡ Accepted
+  pub book-written : bookAnswer (bookOf m) ≡ Accepted
   unfolding bookOf headerAnswer bookAnswer
   book-written = rw (le-leb 4 (length (bookOf m)) (omega arith), g .nodes, count-written, g .count) (taken-written .0)
 
