@@ -13,7 +13,7 @@ byte-at-requires : tie.Need-byte-at-requires
 byte-at-requires c κs = search needs
 
 returns : tie.Need-returns
-returns c = rw (c .byte-at .ensures, c .before .record-bytes .ensures, c .before .before .record-answer .ensures)
+returns c = rw (c .byte-at .ensures, c .before .record-bytes .ensures .1, c .before .before .record-answer .ensures)
 
 pub record-byte-spec : {M : Type 1} → statement M
 record-byte-spec =
