@@ -84,8 +84,8 @@ impl Session {
 
     pub const MOST_LINKS: usize = 256;
 
-    // A fresh session: no cut, all links quiet and no node reached. The record is not tested.
-    pub fn fresh(mesh: Mesh, plan: Plan) -> Session
+    // A fresh session: no cut, all links quiet and no node reached. Tests nothing: `start` is the call that does.
+    fn fresh(mesh: Mesh, plan: Plan) -> Session
         ensures { λ r. ⌜ r ≡ freshOn mesh plan ⌝ }
     {
         let flood = Flood {
