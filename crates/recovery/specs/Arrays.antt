@@ -2,19 +2,16 @@
 use Prim.Native.Nat.{ℕ, _<_, _≤_}
 use mathlib.Core.Path.{_≡_}
 use mathlib.Core.Bool.{cond}
-use mathlib.Core.List.{List, []}
+use mathlib.Core.List.{List}
 use lib.Dec.{eqb}
 use lib.ListN.{length, getD}
 use Rattle.scan.specs.Entry.{at}
 use Rattle.mesh.specs.declared.Mesh.{Mesh}
 use Rattle.mesh.specs.Arc.{tailOf, headOf}
 use Rattle.mesh.specs.WellFormed.{link}
-use Rattle.flood.specs.Digraph.{Digraph, Failure, cut}
 use Rattle.flood.specs.Topology.{takenOf}
 use Rattle.recovery.specs.declared.Cut.{Cut}
 use Rattle.recovery.specs.declared.Cut.the-variants as cuts
-use Rattle.recovery.specs.declared.Delivered.{Delivered}
-use Rattle.recovery.specs.declared.Delivered.the-variants as delivered
 
 -- the starts and the ends of the back-up arcs of all 256 entries
 pub record Tails (m : Mesh) (directions t : List ℕ) : Type 0 where
@@ -25,22 +22,10 @@ pub record Heads (m : Mesh) (directions t : List ℕ) : Type 0 where
   pub sized : length t ≡ 256
   pub same : (i : ℕ) → at t i ≡ headOf (link m i) (getD directions i 0)
 
--- the failure of link k
-abbrev pub cutFailure : Digraph → ℕ → Failure
-cutFailure g k = cut g k
-
--- no links
-abbrev pub noLinks : List ℕ
-noLinks = []
-
 -- the cut link; 0 where there is none
 abbrev pub cutLink : Cut → ℕ
 cutLink (cuts.Link k) = k
 cutLink cuts.Nothing = 0
-
--- what a delivery on a link from a to b answers, by the state v that the link has then
-abbrev pub actedBy : ℕ → ℕ → ℕ → Delivered
-actedBy a b v = cond (eqb v 2) (delivered.Taken b) (cond (eqb v 3) (delivered.TurnedBack b) (delivered.Released a))
 
 -- the number of taken links where a cut stands and no link is under way, else 0
 abbrev pub lengthBy : ℕ → Cut → List ℕ → ℕ → ℕ

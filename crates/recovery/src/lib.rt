@@ -1,9 +1,11 @@
 // The recovery machine: a session on a mesh and a plan, and its calls by value.
 ghost use mathlib.Core.Path.{_≡_};
+ghost use mathlib.Core.List.{[]};
 ghost use lib.ListN.{replicate};
 ghost use Rattle.mesh.specs.declared.Answer.the-variants.{Accepted};
-ghost use Rattle.recovery.specs.Calls.{freshOn, started, afterCut, deliverAnswer, afterDelivery, afterRun, afterMend, statusOf, asRoute, routed};
-ghost use Rattle.recovery.specs.Arrays.{noLinks, cutLink, actedBy, lengthBy};
+ghost use Rattle.flood.specs.Topology.{asRoute};
+ghost use Rattle.recovery.specs.Calls.{freshOn, started, afterCut, deliverAnswer, afterDelivery, afterRun, afterMend, statusOf, acted, routed};
+ghost use Rattle.recovery.specs.Arrays.{cutLink, lengthBy};
 
 mod answers;
 mod formed;
@@ -285,7 +287,7 @@ fn zero_plan() -> Plan
 }
 
 fn no_route() -> Route
-    ensures { λ r. ⌜ r ≡ asRoute noLinks ⌝ }
+    ensures { λ r. ⌜ r ≡ asRoute [] ⌝ }
 {
     Route {
         links: [0u16; 256],
@@ -305,7 +307,7 @@ fn cut_link(cut: Cut) -> u16
 
 // What a delivery on a link from a to b answers, by the state v that the link has then.
 fn acted_on(v: u8, a: u8, b: u8) -> Delivered
-    ensures { λ r. ⌜ r ≡ actedBy a b v ⌝ }
+    ensures { λ r. ⌜ r ≡ acted a b v ⌝ }
 {
     match v {
         2 => Delivered::Taken(b),

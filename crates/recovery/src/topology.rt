@@ -9,9 +9,10 @@ ghost use lib.ListN.{replicate};
 ghost use Rattle.mesh.specs.declared.Answer.the-variants.{Accepted};
 ghost use Rattle.mesh.specs.Mesh.{meshAnswer};
 ghost use Rattle.mesh.specs.Arc.{tailOf, headOf};
+ghost use Rattle.flood.specs.Digraph.{cut};
 ghost use Rattle.flood.specs.Topology.{digraphOf, failureOf};
 ghost use Rattle.recovery.specs.Calls.{backup};
-ghost use Rattle.recovery.specs.Arrays.{Tails, Heads, cutFailure};
+ghost use Rattle.recovery.specs.Arrays.{Tails, Heads};
 
 // The tail of a link that may not be offered: no node has this number.
 const CLOSED: u8 = 255;
@@ -50,7 +51,7 @@ pub(crate) fn topology(mesh: Mesh, plan: Plan, k: u16) -> Topology
     requires { ⌜ meshAnswer mesh ≡ Accepted ⌝ }
     requires { ⌜ k < mesh .count ⌝ }
     ensures digraph { λ r. ⌜ digraphOf r ≡ backup mesh plan ⌝ }
-    ensures failure { λ r. ⌜ failureOf r ≡ cutFailure (backup mesh plan) k ⌝ }
+    ensures failure { λ r. ⌜ failureOf r ≡ cut (backup mesh plan) k ⌝ }
 {
     let directions = plan.directions;
     let mut tails = [0u8; 256];
