@@ -103,17 +103,20 @@ impl Session {
         }
     }
 
-    // 01's start on a mesh and a plan; all zeros with no cut on a refusal.
+    // 01's start on a mesh and a plan: a fresh session, its record tested as in each call; all zeros with no cut on a refusal.
     pub fn start(mesh: Mesh, plan: Plan) -> Change
         ensures { λ r. ⌜ r ≡ started mesh plan ⌝ }
     {
-        let answer = formed::start_answer(mesh, plan);
+        let fresh = Session::fresh(mesh, plan);
+        let answer = formed::record_answer(fresh);
         let Answer::Accepted = answer else {
             let session = Session::fresh(mesh::zero_mesh(), zero_plan());
             return Change { session, answer };
         };
-        let session = Session::fresh(mesh, plan);
-        Change { session, answer }
+        Change {
+            session: fresh,
+            answer,
+        }
     }
 
     // Link k is cut.
@@ -282,7 +285,7 @@ fn zero_plan() -> Plan
     ensures { λ r. ⌜ r .directions ≡ replicate 256 0 ⌝ }
 {
     Plan {
-        directions: [0u8; 256],
+        directions: [0u8; Session::MOST_LINKS],
     }
 }
 
@@ -290,7 +293,7 @@ fn no_route() -> Route
     ensures { λ r. ⌜ r ≡ asRoute [] ⌝ }
 {
     Route {
-        links: [0u16; 256],
+        links: [0u16; Session::MOST_LINKS],
         length: 0,
     }
 }
@@ -312,12 +315,12 @@ fn acted_on(v: u8, a: u8, b: u8) -> Delivered
     match v {
         2 => Delivered::Taken(b),
         3 => Delivered::TurnedBack(b),
-        0 | 1 | 4..=255 => Delivered::Released(a),
+        0 | 1 | 4 | 5..=255 => Delivered::Released(a),
     }
 }
 
 // The number of taken links at rest under a cut, else 0.
-fn route_length(count: u16, cut: Cut, states: [u8; 256], busy: u16) -> u16
+fn route_length(count: u16, cut: Cut, states: [u8; Session::MOST_LINKS], busy: u16) -> u16
     ensures { λ r. ⌜ r ≡ lengthBy count cut states busy ⌝ }
 {
     let Cut::Link(_) = cut else {

@@ -1,4 +1,5 @@
 // The back-up digraph of a mesh under a plan, with the failure of one link, as arrays.
+use crate::Session;
 use flood::Topology;
 use mesh::Link;
 use mesh::Mesh;
@@ -31,7 +32,12 @@ fn head_of(link: Link, direction: u8) -> u8
 }
 
 // Stores where each back-up arc starts and where it ends; the entries past the last link stay 0.
-fn fill_ends(mesh: Mesh, directions: &[u8; 256], tails: &mut [u8; 256], heads: &mut [u8; 256])
+fn fill_ends(
+    mesh: Mesh,
+    directions: &[u8; Session::MOST_LINKS],
+    tails: &mut [u8; Session::MOST_LINKS],
+    heads: &mut [u8; Session::MOST_LINKS],
+)
     requires { ⌜ (meshAnswer mesh ≡ Accepted) × (now tails ≡ replicate 256 0) × (now heads ≡ replicate 256 0) ⌝ }
     ensures tails { λ _. ⌜ Tails mesh (now (directions .entry)) (now (tails .exit)) ⌝ }
     ensures heads { λ _. ⌜ Heads mesh (now (directions .entry)) (now (heads .exit)) ⌝ }
@@ -54,8 +60,8 @@ pub(crate) fn topology(mesh: Mesh, plan: Plan, k: u16) -> Topology
     ensures failure { λ r. ⌜ failureOf r ≡ cut (backup mesh plan) k ⌝ }
 {
     let directions = plan.directions;
-    let mut tails = [0u8; 256];
-    let mut heads = [0u8; 256];
+    let mut tails = [0u8; Session::MOST_LINKS];
+    let mut heads = [0u8; Session::MOST_LINKS];
     fill_ends(mesh, &directions, &mut tails, &mut heads);
     let i = k as usize;
     let mut open = tails;
