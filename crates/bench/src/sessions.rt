@@ -23,7 +23,7 @@ fn just_cut(m: Mesh) -> Change {
     let p = planner::plan(m);
     let a = p.answer;
     let plan = p.plan;
-    let fresh = Session::fresh(m, plan);
+    let fresh = Session::start(m, plan).session;
     let Answer::Accepted = a else {
         return Change {
             session: fresh,

@@ -1,16 +1,15 @@
 -- What the functions on lent arrays are given and what they say, in the terms of the flood. Definitions only.
-use Prim.Native.Nat.{ℕ, _+_, _-_, _≤_}
+use Prim.Native.Nat.{ℕ, _+_, _≤_}
 use mathlib.Core.Path.{_≡_}
 use mathlib.Core.Bool.{Bool, true, not, _&&_}
-use mathlib.Core.List.{List, _++_}
+use mathlib.Core.List.{List}
 use lib.Dec.{eqb}
-use lib.ListN.{length, replicate}
 use Rattle.scan.specs.Entry.{at}
 use Rattle.scan.specs.Lowest.{any, None}
 use Rattle.flood.specs.declared.Route.{Route}
 use Rattle.flood.specs.Digraph.{Digraph, Failure}
 use Rattle.flood.specs.Machine.{Flood, Ran, underWay, live, atRest, run}
-use Rattle.flood.specs.Topology.{routeFrom}
+use Rattle.flood.specs.Topology.{routeFrom, asRoute}
 
 -- ---- the arrays
 
@@ -70,10 +69,6 @@ pub record Ended (g : Digraph) (c : Failure) (n : ℕ) (f got : Flood) (made : �
   pub same : _≡_ {A = Ran} (record { flood = got; made = made }) (run g c n f)
   pub rests : rest ≡ atRest g got
 
--- links in a row, zeros past them
-abbrev pub laid : List ℕ → Route
-laid p = record { links = p ++ replicate (256 - length p) 0; length = length p }
-
 -- the taken links from node u on
 abbrev pub followed : Digraph → ℕ → List ℕ → Route
-followed g u states = laid (routeFrom g (g .links) u states)
+followed g u states = asRoute (routeFrom g (g .links) u states)

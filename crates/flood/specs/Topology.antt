@@ -41,11 +41,13 @@ module _ (g : Digraph) where
       let rest : List ℕ = routeFrom n (head i) states in
       cond (some g (carries u) states) (i ∷ rest) []
 
+-- links in a row, zeros past them
+abbrev pub asRoute : List ℕ → Route
+asRoute p = record { links = p ++ replicate (256 - length p) 0; length = length p }
+
 -- the route of a topology's flood from its source on
 unfoldable pub routeOf : Topology → Flood → Route
-routeOf t f =
-    let p = routeFrom (digraphOf t) (digraphOf t .links) (t .source) (f .states) in
-    record { links = p ++ replicate (256 - length p) 0; length = length p }
+routeOf t f = asRoute (routeFrom (digraphOf t) (digraphOf t .links) (t .source) (f .states))
 
 -- how many of the first links are under way, or taken
 unfoldable pub underWayOf : ℕ → List ℕ → ℕ

@@ -137,7 +137,7 @@ pub(crate) fn step(
     match v {
         1 => arrive(tails, heads, starts, states, reached, links, y, k),
         3 => withdraw(tails, heads, states, links, x, k),
-        0 | 2 | 4..=255 => k,
+        0 | 2 | 4 | 5..=255 => k,
     }
 }
 

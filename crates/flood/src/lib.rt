@@ -116,7 +116,7 @@ pub fn is_under_way(v: u8) -> bool
 {
     match v {
         1 | 3 => true,
-        0 | 2 | 4..=255 => false,
+        0 | 2 | 4 | 5..=255 => false,
     }
 }
 

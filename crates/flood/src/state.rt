@@ -9,7 +9,7 @@ pub(crate) fn is_quiet(v: u8) -> bool
 {
     match v {
         0 => true,
-        1..=255 => false,
+        1 | 2 | 3 | 4 | 5..=255 => false,
     }
 }
 
@@ -18,7 +18,7 @@ pub(crate) fn is_taken(v: u8) -> bool
 {
     match v {
         2 => true,
-        0 | 1 | 3..=255 => false,
+        0 | 1 | 3 | 4 | 5..=255 => false,
     }
 }
 
@@ -27,8 +27,8 @@ pub(crate) fn is_live(v: u8) -> bool
     ensures { λ r. ⌜ r ≡ live v ⌝ }
 {
     match v {
-        1..=3 => true,
-        0 | 4..=255 => false,
+        1 | 2 | 3 => true,
+        0 | 4 | 5..=255 => false,
     }
 }
 

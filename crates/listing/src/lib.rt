@@ -101,7 +101,7 @@ fn put_link(line: &mut [u8], i: u64, l: Link, direction: u8) {
 
 fn print_cuts(m: Mesh, plan: Plan) {
     let count = m.count;
-    let fresh = Session::fresh(m, plan);
+    let fresh = Session::start(m, plan).session;
     let mut k: u16 = 0;
     while k < count {
         print_cut(fresh, k);

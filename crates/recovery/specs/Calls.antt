@@ -1,10 +1,10 @@
 -- What each call gives, for every session and every argument: the refusals in order, then the flood's own begin, step and run. A refused
 -- call hands the session back unaltered (01, "The recovery machine" and "Order"). Definitions only.
-use Prim.Native.Nat.{ℕ, _-_}
+use Prim.Native.Nat.{ℕ}
 use mathlib.Core.Bool.{Bool, true, false, cond, not, _&&_}
-use mathlib.Core.List.{List, [], _++_}
+use mathlib.Core.List.{List, []}
 use lib.Dec.{eqb, ltb}
-use lib.ListN.{length, replicate}
+use lib.ListN.{replicate}
 use Rattle.scan.specs.Entry.{at}
 use Rattle.mesh.specs.declared.Mesh.{Mesh}
 use Rattle.mesh.specs.declared.Plan.{Plan}
@@ -13,12 +13,11 @@ use Rattle.mesh.specs.declared.Answer.the-variants.{Accepted, Refused}
 use Rattle.mesh.specs.Mesh.{must, andThen, zeroMesh}
 use Rattle.mesh.specs.Arc.{backTail, backHead}
 use Rattle.flood.specs.declared.Flood.{Flood}
-use Rattle.flood.specs.declared.Route.{Route}
 use Rattle.flood.specs.Digraph.{Digraph, Failure}
 use Rattle.flood.specs.Digraph as failures
 use Rattle.flood.specs.Machine as machine
 use Rattle.flood.specs.Machine.{underWay, fresh, atRest, activity, takenLinks, begin, step}
-use Rattle.flood.specs.Topology.{routeFrom}
+use Rattle.flood.specs.Topology.{routeFrom, asRoute}
 use Rattle.recovery.specs.declared.Cut.{Cut}
 use Rattle.recovery.specs.declared.Cut.the-variants as cut
 use Rattle.recovery.specs.declared.Session.{Session}
@@ -133,12 +132,12 @@ afterCut s k = change (cutAnswer s k) s (cutOn s k)
 unfoldable pub afterMend : Session → ℕ → Change
 afterMend s k = change (mendAnswer s k) s (freshOn (s .mesh) (s .plan))
 
--- what a delivery on link k, a to b, answers, by the state v that the link has then: 2 taken by b, 3 turned back by b, 4 released by a
-abbrev pub acted : Digraph → ℕ → ℕ → Delivered
-acted g k v = cond (eqb v 2) (delivered.Taken (g .head k)) (cond (eqb v 3) (delivered.TurnedBack (g .head k)) (delivered.Released (g .tail k)))
+-- what a delivery on a link a to b answers, by the state v that the link has then: 2 taken by b, 3 turned back by b, 4 released by a
+abbrev pub acted : ℕ → ℕ → ℕ → Delivered
+acted a b v = cond (eqb v 2) (delivered.Taken b) (cond (eqb v 3) (delivered.TurnedBack b) (delivered.Released a))
 
 abbrev pub deliveryAs : Answer → Session → ℕ → Flood → Delivery
-deliveryAs Accepted s k f = record { session = withFlood s f; answer = acted (digraph s) k (at (f .states) k) }
+deliveryAs Accepted s k f = record { session = withFlood s f; answer = acted (digraph s .tail k) (digraph s .head k) (at (f .states) k) }
 deliveryAs (Refused number place) s k f = record { session = s; answer = delivered.Refused number place }
 
 unfoldable pub afterDelivery : Session → ℕ → Delivery
@@ -166,9 +165,6 @@ statusOf s k = statusAs (statusAnswer s k) s k
 -- the taken links from x on at rest, else none (read only where a cut stands: `routed` refuses 23 first)
 unfoldable pub routeOf : Session → List ℕ
 routeOf s = cond (resting s) (routeFrom (digraph s) (s .mesh .count) (failure s .source) (s .flood .states)) []
-
-abbrev pub asRoute : List ℕ → Route
-asRoute p = record { links = p ++ replicate (256 - length p) 0; length = length p }
 
 abbrev pub routedAs : Answer → List ℕ → Routed
 routedAs Accepted p = record { route = asRoute p; answer = Accepted }

@@ -1,5 +1,5 @@
 pub mod Arrays
 pub mod Calls
 pub mod Forming
-pub mod Largest
+pub mod Scans
 pub mod Tested

@@ -2,61 +2,67 @@
 use crate::Cut;
 use crate::Session;
 use mesh::Answer;
-use mesh::Mesh;
-use mesh::Plan;
 ghost use mathlib.Core.Path.{_≡_};
-ghost use Prim.Native.Nat.{max};
-ghost use Rattle.recovery.specs.Formed.{overflows, strays, misplaced, startAnswer, recordAnswer};
-ghost use Rattle.recovery.specs.Arrays.{Largest};
+ghost use lib.Dec.{ltb};
+ghost use Rattle.scan.specs.Lowest.{any};
+ghost use Rattle.recovery.specs.Formed.{overflows, strays, misplaced, recordAnswer};
+ghost use Rattle.recovery.specs.Arrays.{highest, isLeftover};
 
-fn larger(a: u8, b: u8) -> u8
-    ensures { λ r. ⌜ r ≡ max a b ⌝ }
-{
-    if a < b { b } else { a }
+// What the entries of an array are: one loop tests both kinds.
+enum Kind {
+    Direction,
+    State,
 }
 
-// The largest entry from `first` on, 0 where there is none.
-fn largest_from(first: usize, entries: &[u8; 256]) -> u8
-    ensures { λ r. ⌜ Largest (now (entries .entry)) first 256 r ⌝ }
+// Whether v is no direction, which is 0 or 1, or no state, which is 0 to 4.
+fn is_above(kind: Kind, v: u8) -> bool
+    ensures { λ r. ⌜ r ≡ ltb (highest kind) v ⌝ }
 {
-    let mut most: u8 = 0;
-    let mut i = first;
-    while i < 256 {
-        most = larger(most, entries[i]);
+    match kind {
+        Kind::Direction => match v {
+            0 | 1 => false,
+            2..=255 => true,
+        },
+        Kind::State => match v {
+            0 | 1 | 2 | 3 | 4 => false,
+            5..=255 => true,
+        },
+    }
+}
+
+// Whether an entry past the last link is not zero: some bit of some entry is set.
+fn has_leftover(links: u16, entries: &[u8; Session::MOST_LINKS]) -> bool
+    ensures { λ r. ⌜ r ≡ any (isLeftover links (now (entries .entry))) 256 ⌝ }
+{
+    let mut bits: u8 = 0;
+    let mut i = links as usize;
+    while i < Session::MOST_LINKS {
+        bits = bits | entries[i];
         i += 1;
     }
-    most
+    bits != 0
 }
 
-// Whether a direction is above 1, or an entry past the last link not zero.
-fn has_bad_direction(links: u16, directions: &[u8; 256]) -> bool
-    ensures { λ r. ⌜ r ≡ overflows links 1 (now (directions .entry)) ⌝ }
+// Whether a direction is above 1, a state above 4, or an entry past the last link not zero.
+fn has_bad_entry(kind: Kind, links: u16, entries: &[u8; Session::MOST_LINKS]) -> bool
+    ensures { λ r. ⌜ r ≡ overflows links (highest kind) (now (entries .entry)) ⌝ }
 {
-    let d = largest_from(0, directions);
-    match d {
-        0..=1 => largest_from(links as usize, directions) != 0,
-        2..=255 => true,
+    let mut bad = has_leftover(links, entries);
+    let mut i: usize = 0;
+    while i < Session::MOST_LINKS {
+        bad = bad | is_above(kind, entries[i]);
+        i += 1;
     }
-}
-
-// Whether a state is above 4, or an entry past the last link not zero.
-fn has_bad_state(links: u16, states: &[u8; 256]) -> bool
-    ensures { λ r. ⌜ r ≡ overflows links 4 (now (states .entry)) ⌝ }
-{
-    let v = largest_from(0, states);
-    match v {
-        0..=4 => largest_from(links as usize, states) != 0,
-        5..=255 => true,
-    }
+    bad
 }
 
 // Whether a node not below N is reached.
-fn has_stray(nodes: u8, reached: &[bool; 64]) -> bool
+fn has_stray(nodes: u8, reached: &[bool; Session::MOST_NODES]) -> bool
     ensures { λ r. ⌜ r ≡ strays nodes (now (reached .entry)) ⌝ }
 {
     let mut bad = false;
     let mut v = nodes as usize;
-    while v < 64 {
+    while v < Session::MOST_NODES {
         bad = bad | reached[v];
         v += 1;
     }
@@ -82,38 +88,27 @@ fn ill_formed() -> Answer
     }
 }
 
-// A mesh and a plan: mesh, 13.
-pub(crate) fn start_answer(mesh: Mesh, plan: Plan) -> Answer
-    ensures { λ r. ⌜ r ≡ startAnswer mesh plan ⌝ }
-{
-    let a = mesh::check(mesh);
-    let Answer::Accepted = a else {
-        return a;
-    };
-    let directions = plan.directions;
-    if has_bad_direction(mesh.count, &directions) {
-        return ill_formed();
-    }
-    Answer::Accepted
-}
-
 // A session: mesh, 13.
 pub(crate) fn record_answer(s: Session) -> Answer
     ensures { λ r. ⌜ r ≡ recordAnswer s ⌝ }
 {
     let mesh = s.mesh;
-    let plan = s.plan;
-    let a = start_answer(mesh, plan);
+    let a = mesh::check(mesh);
     let Answer::Accepted = a else {
         return a;
     };
+    let plan = s.plan;
+    let directions = plan.directions;
+    if has_bad_entry(Kind::Direction, mesh.count, &directions) {
+        return ill_formed();
+    }
     let cut = s.cut;
     if is_misplaced(mesh.count, cut) {
         return ill_formed();
     }
     let flood = s.flood;
     let states = flood.states;
-    if has_bad_state(mesh.count, &states) {
+    if has_bad_entry(Kind::State, mesh.count, &states) {
         return ill_formed();
     }
     let reached = flood.reached;

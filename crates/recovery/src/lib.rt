@@ -1,9 +1,11 @@
 // The recovery machine: a session on a mesh and a plan, and its calls by value.
 ghost use mathlib.Core.Path.{_≡_};
+ghost use mathlib.Core.List.{[]};
 ghost use lib.ListN.{replicate};
 ghost use Rattle.mesh.specs.declared.Answer.the-variants.{Accepted};
-ghost use Rattle.recovery.specs.Calls.{freshOn, started, afterCut, deliverAnswer, afterDelivery, afterRun, afterMend, statusOf, asRoute, routed};
-ghost use Rattle.recovery.specs.Arrays.{noLinks, cutLink, actedBy, lengthBy};
+ghost use Rattle.flood.specs.Topology.{asRoute};
+ghost use Rattle.recovery.specs.Calls.{freshOn, started, afterCut, deliverAnswer, afterDelivery, afterRun, afterMend, statusOf, acted, routed};
+ghost use Rattle.recovery.specs.Arrays.{cutLink, lengthBy};
 
 mod answers;
 mod formed;
@@ -84,8 +86,8 @@ impl Session {
 
     pub const MOST_LINKS: usize = 256;
 
-    // A fresh session: no cut, all links quiet and no node reached. The record is not tested.
-    pub fn fresh(mesh: Mesh, plan: Plan) -> Session
+    // A fresh session: no cut, all links quiet and no node reached. Tests nothing: `start` is the call that does.
+    fn fresh(mesh: Mesh, plan: Plan) -> Session
         ensures { λ r. ⌜ r ≡ freshOn mesh plan ⌝ }
     {
         let flood = Flood {
@@ -101,17 +103,20 @@ impl Session {
         }
     }
 
-    // 01's start on a mesh and a plan; all zeros with no cut on a refusal.
+    // 01's start on a mesh and a plan: a fresh session, its record tested as in each call; all zeros with no cut on a refusal.
     pub fn start(mesh: Mesh, plan: Plan) -> Change
         ensures { λ r. ⌜ r ≡ started mesh plan ⌝ }
     {
-        let answer = formed::start_answer(mesh, plan);
+        let fresh = Session::fresh(mesh, plan);
+        let answer = formed::record_answer(fresh);
         let Answer::Accepted = answer else {
             let session = Session::fresh(mesh::zero_mesh(), zero_plan());
             return Change { session, answer };
         };
-        let session = Session::fresh(mesh, plan);
-        Change { session, answer }
+        Change {
+            session: fresh,
+            answer,
+        }
     }
 
     // Link k is cut.
@@ -280,15 +285,15 @@ fn zero_plan() -> Plan
     ensures { λ r. ⌜ r .directions ≡ replicate 256 0 ⌝ }
 {
     Plan {
-        directions: [0u8; 256],
+        directions: [0u8; Session::MOST_LINKS],
     }
 }
 
 fn no_route() -> Route
-    ensures { λ r. ⌜ r ≡ asRoute noLinks ⌝ }
+    ensures { λ r. ⌜ r ≡ asRoute [] ⌝ }
 {
     Route {
-        links: [0u16; 256],
+        links: [0u16; Session::MOST_LINKS],
         length: 0,
     }
 }
@@ -305,17 +310,17 @@ fn cut_link(cut: Cut) -> u16
 
 // What a delivery on a link from a to b answers, by the state v that the link has then.
 fn acted_on(v: u8, a: u8, b: u8) -> Delivered
-    ensures { λ r. ⌜ r ≡ actedBy a b v ⌝ }
+    ensures { λ r. ⌜ r ≡ acted a b v ⌝ }
 {
     match v {
         2 => Delivered::Taken(b),
         3 => Delivered::TurnedBack(b),
-        0 | 1 | 4..=255 => Delivered::Released(a),
+        0 | 1 | 4 | 5..=255 => Delivered::Released(a),
     }
 }
 
 // The number of taken links at rest under a cut, else 0.
-fn route_length(count: u16, cut: Cut, states: [u8; 256], busy: u16) -> u16
+fn route_length(count: u16, cut: Cut, states: [u8; Session::MOST_LINKS], busy: u16) -> u16
     ensures { λ r. ⌜ r ≡ lengthBy count cut states busy ⌝ }
 {
     let Cut::Link(_) = cut else {

@@ -1,4 +1,5 @@
 // The back-up digraph of a mesh under a plan, with the failure of one link, as arrays.
+use crate::Session;
 use flood::Topology;
 use mesh::Link;
 use mesh::Mesh;
@@ -9,9 +10,10 @@ ghost use lib.ListN.{replicate};
 ghost use Rattle.mesh.specs.declared.Answer.the-variants.{Accepted};
 ghost use Rattle.mesh.specs.Mesh.{meshAnswer};
 ghost use Rattle.mesh.specs.Arc.{tailOf, headOf};
+ghost use Rattle.flood.specs.Digraph.{cut};
 ghost use Rattle.flood.specs.Topology.{digraphOf, failureOf};
 ghost use Rattle.recovery.specs.Calls.{backup};
-ghost use Rattle.recovery.specs.Arrays.{Tails, Heads, cutFailure};
+ghost use Rattle.recovery.specs.Arrays.{Tails, Heads};
 
 // The tail of a link that may not be offered: no node has this number.
 const CLOSED: u8 = 255;
@@ -30,7 +32,12 @@ fn head_of(link: Link, direction: u8) -> u8
 }
 
 // Stores where each back-up arc starts and where it ends; the entries past the last link stay 0.
-fn fill_ends(mesh: Mesh, directions: &[u8; 256], tails: &mut [u8; 256], heads: &mut [u8; 256])
+fn fill_ends(
+    mesh: Mesh,
+    directions: &[u8; Session::MOST_LINKS],
+    tails: &mut [u8; Session::MOST_LINKS],
+    heads: &mut [u8; Session::MOST_LINKS],
+)
     requires { ⌜ (meshAnswer mesh ≡ Accepted) × (now tails ≡ replicate 256 0) × (now heads ≡ replicate 256 0) ⌝ }
     ensures tails { λ _. ⌜ Tails mesh (now (directions .entry)) (now (tails .exit)) ⌝ }
     ensures heads { λ _. ⌜ Heads mesh (now (directions .entry)) (now (heads .exit)) ⌝ }
@@ -50,11 +57,11 @@ pub(crate) fn topology(mesh: Mesh, plan: Plan, k: u16) -> Topology
     requires { ⌜ meshAnswer mesh ≡ Accepted ⌝ }
     requires { ⌜ k < mesh .count ⌝ }
     ensures digraph { λ r. ⌜ digraphOf r ≡ backup mesh plan ⌝ }
-    ensures failure { λ r. ⌜ failureOf r ≡ cutFailure (backup mesh plan) k ⌝ }
+    ensures failure { λ r. ⌜ failureOf r ≡ cut (backup mesh plan) k ⌝ }
 {
     let directions = plan.directions;
-    let mut tails = [0u8; 256];
-    let mut heads = [0u8; 256];
+    let mut tails = [0u8; Session::MOST_LINKS];
+    let mut heads = [0u8; Session::MOST_LINKS];
     fill_ends(mesh, &directions, &mut tails, &mut heads);
     let i = k as usize;
     let mut open = tails;

@@ -32,8 +32,8 @@ use Rattle.guarantees.specs.History.{Call, Log, cut, deliver, run, mend,
 use Rattle.recovery.specs.Laws.Tested.{cut-accepted, deliver-accepted, run-accepted}
 
 -- whatever an accepted delivery answers, it is accepted
-pub acted-accepted : (g : Digraph) (k v : ℕ) → accepted (acted g k v) ≡ true
-acted-accepted g k v = branch IsAccepted (eqb v 2) (λ t. refl) (λ t. branch IsAccepted (eqb v 3) (λ t. refl) (λ t. refl))
+pub acted-accepted : (a b v : ℕ) → accepted (acted a b v) ≡ true
+acted-accepted a b v = branch IsAccepted (eqb v 2) (λ t. refl) (λ t. branch IsAccepted (eqb v 3) (λ t. refl) (λ t. refl))
   where
     IsAccepted : Delivered → Type 0
     IsAccepted d = accepted d ≡ true
@@ -102,7 +102,7 @@ module _ (m : Mesh) (p : Plan) where
         by-answer : (a : Answer) → deliverAnswer s k ≡ a → let r = deliveryAs a s k f in Kept (r .session) (note (deliver w k) (r .answer) l)
         by-answer Accepted e =
             let (r, b, c, a) = deliver-accepted s k e in
-            let one : suc (l .deliveries) ≡ l .deliveries + bit (accepted (acted (digraph s) k (at (f .states) k))) = rw acted-accepted (omega arith) in
+            let one : suc (l .deliveries) ≡ l .deliveries + bit (accepted (acted (digraph s .tail k) (digraph s .head k) (at (f .states) k))) = rw acted-accepted (omega arith) in
             subst (λ (n : ℕ). Kept (withFlood s f) (record { cut = l .cut; deliveries = n })) one (deliver-kept K k c a)
         by-answer (Refused number place) e = subst (λ (n : ℕ). Kept s (record { cut = l .cut; deliveries = n })) (omega arith) K
     call-kept {s} {l} K (run n) = by-answer (runAnswer s) refl

@@ -38,7 +38,7 @@ further : (s : Session) → recordAnswer s ≡ Accepted → standing (s .cut) �
 unfolding afterDelivery
 further s r c i = (
   λ t. by-answer (deliverAnswer s i) refl t,
-  λ u. rw (deliver-accepts s i r c (accepts-says (digraph s) i (s .flood) .1 u)) (acted-accepted (digraph s) i (at (f .states) i)),
+  λ u. rw (deliver-accepts s i r c (accepts-says (digraph s) i (s .flood) .1 u)) (acted-accepted (digraph s .tail i) (digraph s .head i) (at (f .states) i)),
 )
   where
     f : Flood

@@ -21,7 +21,7 @@ change-keeps Accepted s t e = clash e refl
 change-keeps (Refused number place) s t e = refl
 
 delivery-keeps : (a : Answer) (s : Session) (k : ℕ) (f : Flood) → not (accepted (deliveryAs a s k f .answer)) ≡ true → deliveryAs a s k f .session ≡ s
-delivery-keeps Accepted s k f e = clash e (ap not (acted-accepted (digraph s) k (at (f .states) k)))
+delivery-keeps Accepted s k f e = clash e (ap not (acted-accepted (digraph s .tail k) (digraph s .head k) (at (f .states) k)))
 delivery-keeps (Refused number place) s k f e = refl
 
 run-keeps : (n : ℕ) (a : Answer) (s : Session) (r : machine.Ran) → refused (run n) (runAs a s r .report) ≡ true → runAs a s r .session ≡ s

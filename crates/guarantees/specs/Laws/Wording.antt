@@ -104,10 +104,10 @@ module _ (s : Session) (c k : ℕ) (stands : s .cut ≡ Link c) (ok : deliverAns
   moves = deliver-accepted s k ok .3
 
   -- it answers by the state that the link has then
-  answer-by : {v : ℕ} → at (step g x k (s .flood) .states) k ≡ v → afterDelivery s k .answer ≡ acted g k v
+  answer-by : {v : ℕ} → at (step g x k (s .flood) .states) k ≡ v → afterDelivery s k .answer ≡ acted a b v
   unfolding afterDelivery
   answer-by e =
-      rw ok (ap (λ (u : Cut). acted g k (at (step g (failureOf g u) k (s .flood) .states) k)) stands ∙ ap (acted g k) e)
+      rw ok (ap (λ (u : Cut). acted a b (at (step g (failureOf g u) k (s .flood) .states) k)) stands ∙ ap (acted a b) e)
 
   module _ (offered : state k ≡ 1) where
     -- b is reached

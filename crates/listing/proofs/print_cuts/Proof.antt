@@ -10,8 +10,8 @@ Inv-loop count fresh k₀ k = k ≤ count
 abbrev μ-loop : tie.MeasureT-loop
 μ-loop count fresh k₀ k = count - k
 
-fresh-requires : tie.Need-fresh-requires Inv-loop μ-loop
-fresh-requires c κs = search needs
+start-requires : tie.Need-start-requires Inv-loop μ-loop
+start-requires c κs = search needs
 
 loop-holds : tie.Need-loop-holds Inv-loop μ-loop
 loop-holds c = search needs
@@ -37,7 +37,7 @@ print-cuts-spec =
     (tie.spec
     Inv-loop
     μ-loop
-    fresh-requires
+    start-requires
     loop-holds
     print-cut-requires
     add-k

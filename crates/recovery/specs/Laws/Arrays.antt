@@ -21,13 +21,14 @@ use Rattle.mesh.specs.WellFormed.{link}
 use Rattle.mesh.specs.Arc.{tailOf, headOf, backTail}
 use Rattle.mesh.specs.Laws.Checked.{passes, well-formed}
 use Rattle.flood.specs.declared.Topology.{Topology}
+use Rattle.flood.specs.Digraph.{cut}
 use Rattle.flood.specs.Machine.{underWay, some, atRest, activity, takenLinks}
 use Rattle.flood.specs.Topology.{digraphOf, failureOf, underWayOf, takenOf}
 use Rattle.recovery.specs.declared.Cut.{Cut}
 use Rattle.recovery.specs.declared.Cut.the-variants as cuts
 use Rattle.recovery.specs.declared.Session.{Session}
 use Rattle.recovery.specs.Calls.{backup, digraph, standing, resting, routeLength}
-use Rattle.recovery.specs.Arrays.{Tails, Heads, cutFailure, lengthBy}
+use Rattle.recovery.specs.Arrays.{Tails, Heads, lengthBy}
 
 min-few : (n : ℕ) → n ≤ 256 → min n 256 ≡ n
 min-few n h = omega arith
@@ -90,12 +91,12 @@ module _ (m : Mesh) (p : Plan) (good : meshAnswer m ≡ Accepted) (k : ℕ) (bel
   link-entry = let most : m .count ≤ 256 = passes m good .count-most in omega arith
 
   module _ (tails heads : List ℕ) (T : Tails m (p .directions) tails) (H : Heads m (p .directions) heads) where
-    abbrev made : Topology
-    made = record { nodes = m .nodes; count = m .count; source = at heads k; target = at tails k; tails = tails; heads = heads; «open» = set tails k 255 }
+    abbrev made : ℕ → ℕ → List ℕ → Topology
+    made x y starts = record { nodes = m .nodes; count = m .count; source = x; target = y; tails = tails; heads = heads; «open» = starts }
 
-    pub topology-digraph : digraphOf made ≡ backup m p
+    pub topology-digraph : (x y : ℕ) (starts : List ℕ) → digraphOf (made x y starts) ≡ backup m p
     unfolding digraphOf
-    topology-digraph = λ j. record { nodes = m .nodes; links = few j; tail = λ i. T .same i j; head = λ i. H .same i j }
+    topology-digraph x y starts = λ j. record { nodes = m .nodes; links = few j; tail = λ i. T .same i j; head = λ i. H .same i j }
       where
         few : min (m .count) 256 ≡ m .count
         few = min-few (m .count) (passes m good .count-most)
@@ -109,7 +110,7 @@ module _ (m : Mesh) (p : Plan) (good : meshAnswer m ≡ Accepted) (k : ℕ) (bel
         (rw (ne-eqb 255 (at tails k) (λ e. omega arith), eq-eqb k k refl))
         (λ n. rw (eq-eqb (at tails i) (at tails i) refl, ne-eqb i k n))
 
-    pub topology-failure : failureOf made ≡ cutFailure (backup m p) k
+    pub topology-failure : failureOf (made (at heads k) (at tails k) (set tails k 255)) ≡ cut (backup m p) k
     unfolding failureOf
     topology-failure = λ j. record { source = H .same k j; target = T .same k j; blocked = λ i. blocked-only i j }
 

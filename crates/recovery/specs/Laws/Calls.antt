@@ -1,22 +1,29 @@
 -- What each call gives by the way it goes. Assumes nothing.
 use Prim.Native.Nat.{ℕ, _<_, _≤_}
 use mathlib.Core.Path.{_≡_, refl, sym, ap, _∙_}
-use mathlib.Core.Bool.{Bool, true, false, cond}
+use mathlib.Core.Bool.{Bool, true, false, cond, and-false}
 use mathlib.Core.List.{List, []}
+use native.Mathlib.Omega.{arith}
+use lib.Dec.{ltb, leb}
+use lib.ListN.{replicate}
+use borrow.Author.Tests.{le-ltb}
 use Rattle.scan.specs.Test.{clash}
-use Rattle.scan.specs.Entry.{at}
+use Rattle.scan.specs.Entry.{at, replicate-at}
+use Rattle.scan.specs.Lowest.{any-none}
+use Rattle.mesh.specs.declared.Mesh.{Mesh}
+use Rattle.mesh.specs.declared.Plan.{Plan}
 use Rattle.mesh.specs.declared.Answer.{Answer}
 use Rattle.mesh.specs.declared.Answer.the-variants.{Accepted, Refused}
-use Rattle.mesh.specs.Mesh.{meshAnswer}
+use Rattle.mesh.specs.Mesh.{andThen, meshAnswer}
 use Rattle.flood.specs.declared.Flood.{Flood}
 use Rattle.flood.specs.declared.Topology.{Topology}
 use Rattle.flood.specs.declared.Ran.{Ran}
 use Rattle.flood.specs.declared.Route.{Route}
-use Rattle.flood.specs.Digraph.{Digraph, Failure}
+use Rattle.flood.specs.Digraph.{Digraph, Failure, cut}
 use Rattle.flood.specs.Machine as machine
-use Rattle.flood.specs.Machine.{step}
+use Rattle.flood.specs.Machine.{fresh, step}
 use Rattle.flood.specs.Topology as topology
-use Rattle.flood.specs.Topology.{underWayOf}
+use Rattle.flood.specs.Topology.{underWayOf, asRoute}
 use Rattle.recovery.specs.declared.Cut.{Cut}
 use Rattle.recovery.specs.declared.Cut.the-variants as cuts
 use Rattle.recovery.specs.declared.Session.{Session}
@@ -28,10 +35,10 @@ use Rattle.recovery.specs.declared.Report.the-variants as report
 use Rattle.recovery.specs.declared.Run.{Run}
 use Rattle.recovery.specs.declared.Status.the-variants as status
 use Rattle.recovery.specs.declared.Routed.{Routed}
-use Rattle.recovery.specs.Formed.{recordAnswer}
-use Rattle.recovery.specs.Calls.{digraph, failureOf, failure, standing, deliverAnswer, runAnswer, statusAnswer}
-use Rattle.recovery.specs.Calls.{withFlood, resting, change, deliveryAs, afterDelivery, runAs, afterRun, statusAs, statusOf, routeOf, asRoute, routedAs}
-use Rattle.recovery.specs.Arrays.{cutFailure, cutLink, actedBy, lengthBy}
+use Rattle.recovery.specs.Formed.{isOver, overflows, isStray, strays, floodFault, startAnswer, recordAnswer}
+use Rattle.recovery.specs.Calls.{digraph, failureOf, failure, standing, freshOn, deliverAnswer, runAnswer, statusAnswer}
+use Rattle.recovery.specs.Calls.{withFlood, resting, change, deliveryAs, afterDelivery, runAs, afterRun, acted, statusAs, statusOf, routeOf, routedAs}
+use Rattle.recovery.specs.Arrays.{cutLink, lengthBy}
 use Rattle.recovery.specs.Laws.Forming.{record-mesh, record-few, record-cut}
 use Rattle.recovery.specs.Laws.Tested.{status-accepted}
 use Rattle.recovery.specs.Laws.Arrays.{under-way-counted, length-counted}
@@ -42,7 +49,7 @@ stands-link : (c : Cut) → standing c ≡ true → c ≡ cuts.Link (cutLink c)
 stands-link cuts.Nothing t = clash t refl
 stands-link (cuts.Link k) t = refl
 
-stands-failure : (g : Digraph) (c : Cut) → standing c ≡ true → cutFailure g (cutLink c) ≡ failureOf g c
+stands-failure : (g : Digraph) (c : Cut) → standing c ≡ true → cut g (cutLink c) ≡ failureOf g c
 stands-failure g cuts.Nothing t = clash t refl
 stands-failure g (cuts.Link k) t = refl
 
@@ -52,8 +59,28 @@ module _ (s : Session) (stands : standing (s .cut) ≡ true) (k : ℕ) (e : k �
   standing-link r = (record-mesh s r, record-cut s r k (stands-link (s .cut) stands ∙ ap cuts.Link (sym e)))
 
   -- the topology under it has the session's failure
-  pub standing-failure : (t : Topology) → topology.failureOf t ≡ cutFailure (digraph s) k → topology.failureOf t ≡ failure s
-  standing-failure t f = f ∙ ap (cutFailure (digraph s)) e ∙ stands-failure (digraph s) (s .cut) stands
+  pub standing-failure : (t : Topology) → topology.failureOf t ≡ cut (digraph s) k → topology.failureOf t ≡ failure s
+  standing-failure t f = f ∙ ap (cut (digraph s)) e ∙ stands-failure (digraph s) (s .cut) stands
+
+-- ---- a fresh session
+
+module _ (m : Mesh) where
+  all-quiet : overflows (m .count) 4 (replicate 256 0) ≡ false
+  unfolding overflows isOver
+  all-quiet = any-none _ 256 256 (λ i b. rw (replicate-at {A = ℕ} 256 0 i) (le-ltb (cond (ltb i (m .count)) 4 0) 0 (omega arith))) (omega arith)
+
+  none-reached : strays (m .nodes) (replicate 64 false) ≡ false
+  unfolding strays isStray
+  none-reached = any-none _ 64 64 (λ v b. rw (replicate-at 64 false v) (and-false (leb (m .nodes) v))) (omega arith)
+
+  -- its record is tested as a start on its mesh and plan is
+  pub fresh-answer : (p : Plan) → recordAnswer (freshOn m p) ≡ startAnswer m p
+  unfolding recordAnswer floodFault fresh
+  fresh-answer p = rw (all-quiet, none-reached) (go (startAnswer m p))
+    where
+      go : (a : Answer) → andThen a Accepted ≡ a
+      go Accepted = refl
+      go (Refused number place) = refl
 
 -- ---- what each call gives: r is its answer a
 
@@ -112,14 +139,14 @@ route-busy s next q n = n ∙ sym (ap (λ (b : Bool). asRoute (routeWhere s b)) 
 module _ (s : Session) (t : Topology) (d : topology.digraphOf t ≡ digraph s) (f : topology.failureOf t ≡ failure s) where
   pub delivery-made : (k : ℕ) (next : Flood) (w : Delivered) → deliverAnswer s k ≡ Accepted
       → next ≡ step (topology.digraphOf t) (topology.failureOf t) k (s .flood)
-      → w ≡ actedBy (at (t .tails) k) (at (t .heads) k) (at (next .states) k)
+      → w ≡ acted (at (t .tails) k) (at (t .heads) k) (at (next .states) k)
       → _≡_ {A = Delivery} (record { session = withFlood s next; answer = w }) (afterDelivery s k)
   unfolding afterDelivery topology.digraphOf
   delivery-made k next w a n q =
       let m : next ≡ step (digraph s) (failure s) k (s .flood) = n ∙ (λ i. step (d i) (f i) k (s .flood)) in
       (λ i. record {
         session = withFlood s (m i);
-        answer = (q ∙ (λ j. actedBy (d j .tail k) (d j .head k) (at (m j .states) k))) i;
+        answer = (q ∙ (λ j. acted (d j .tail k) (d j .head k) (at (m j .states) k))) i;
       })
       ∙ ap (λ (x : Answer). deliveryAs x s k (step (digraph s) (failure s) k (s .flood))) (sym a)
 

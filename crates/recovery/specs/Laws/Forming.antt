@@ -30,10 +30,6 @@ use Rattle.recovery.specs.WellFormed.{Bounded, PlanFormed, CutFormed, Fl
 -- ---- one entry
 
 module _ (links top i v : ℕ) where
-  pub over-above : i < links → top < v → isOver links top i v ≡ true
-  unfolding isOver
-  over-above h l = rw (lt-ltb i links h, lt-ltb top v l)
-
   pub over-within : i < links → v ≤ top → isOver links top i v ≡ false
   unfolding isOver
   over-within h l = rw (lt-ltb i links h, le-ltb top v l)

@@ -1,13 +1,21 @@
--- `recovery::Session::start` meets its contract: refused, it gives the session of zeros; accepted, a fresh one.
-use mathlib.Core.Path.{_∙_}
+-- `recovery::Session::start` meets its contract: refused, it gives the session of zeros; accepted, the fresh one, whose record it tested.
+use mathlib.Core.Path.{_≡_, ap, _∙_}
 use borrow.Author.Needs.{needs}
+use Rattle.recovery.specs.Formed.{startAnswer, recordAnswer}
 use Rattle.recovery.specs.Calls.{freshOn, started}
-use Rattle.recovery.specs.Laws.Calls.{change-stops, change-goes}
+use Rattle.recovery.specs.Laws.Calls.{fresh-answer, change-stops, change-goes}
 use Rattle.recovery.proofs.Session.start.Statement.{statement}
 use Rattle.recovery.proofs.Session.start.Tie as tie
 
-start-answer-requires : tie.Need-start-answer-requires
-start-answer-requires c κs = search needs
+-- the answer is that of a start on the mesh and the plan
+answers : (c : tie.After-record-answer) → let a = c .before .before .args in c .record-answer .result ≡ startAnswer (a .mesh) (a .plan)
+answers c = let a = c .before .before .args in c .record-answer .ensures ∙ ap recordAnswer (c .before .fresh .ensures) ∙ fresh-answer (a .mesh) (a .plan)
+
+fresh-requires : tie.Need-fresh-requires
+fresh-requires c κs = search needs
+
+record-answer-requires : tie.Need-record-answer-requires
+record-answer-requires c κs = search needs
 
 enum-told : tie.Need-enum-told
 enum-told c = search needs
@@ -21,33 +29,30 @@ zero-mesh-requires c κs = search needs
 zero-plan-requires : tie.Need-zero-plan-requires
 zero-plan-requires c κs = search needs
 
-fresh-requires : tie.Need-fresh-requires
-fresh-requires c κs = search needs
+fresh-requires-2 : tie.Need-fresh-requires-2
+fresh-requires-2 c κs = search needs
 
 returns : tie.Need-returns
 unfolding started
 returns c =
     let d = c .before .before .before in
-    change-stops (d .before .before .start-answer .ensures) _ _ _ (d .enum-told2 .given .1)
-    (c .fresh .ensures ∙ (λ i. freshOn (c .before .before .zero-mesh .ensures i) (record { directions = c .before .zero-plan .ensures i })))
-
-fresh-requires-2 : tie.Need-fresh-requires-2
-fresh-requires-2 c κs = search needs
+    change-stops (answers (d .before .before)) _ _ _ (d .enum-told2 .given .1)
+    (c .fresh2 .ensures ∙ (λ i. freshOn (c .before .before .zero-mesh .ensures i) (record { directions = c .before .zero-plan .ensures i })))
 
 returns-2 : tie.Need-returns-2
 unfolding started
-returns-2 c = change-goes (c .before .before .before .start-answer .ensures) _ _ _ (c .before .enum-told .given .1) (c .fresh2 .ensures)
+returns-2 c = change-goes (answers (c .before .before)) _ _ _ (c .enum-told .given .1) (c .before .before .before .fresh .ensures)
 
 pub start-spec : {M : Type 1} → statement M
 start-spec =
     tie.close
     (tie.spec
-    start-answer-requires
+    fresh-requires
+    record-answer-requires
     enum-told
     enum-told-2
     zero-mesh-requires
     zero-plan-requires
-    fresh-requires
-    returns
     fresh-requires-2
+    returns
     returns-2)

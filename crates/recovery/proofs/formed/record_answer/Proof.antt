@@ -3,24 +3,45 @@ use mathlib.Core.Path.{_≡_, sym, _∙_}
 use mathlib.Core.Bool.{false}
 use borrow.Author.Needs.{needs}
 use Rattle.mesh.specs.declared.Answer.the-variants.{Accepted}
-use Rattle.recovery.specs.Formed.{overflows, misplaced, floodFault, startAnswer, recordAnswer}
+use Rattle.mesh.specs.Mesh.{meshAnswer}
+use Rattle.recovery.specs.declared.Session.{Session}
+use Rattle.recovery.specs.Formed.{overflows, misplaced, planFault, floodFault, startAnswer, recordAnswer}
 use Rattle.recovery.proofs.formed.record_answer.Statement.{statement}
 use Rattle.recovery.proofs.formed.record_answer.Tie as tie
 
--- what is known after each part that passes
-start-passes : (c : tie.After-enum-told) → let s = c .before .before .before .before .before .args .s in startAnswer (s .mesh) (s .plan) ≡ Accepted
-start-passes c = sym (c .before .before .start-answer .ensures) ∙ c .enum-told .given .1
+-- the session, once the mesh is accepted
+abbrev session : tie.After-enum-told → Session
+session c = c .before .before .before .before .args .s
 
-well-placed : (c : tie.Else1) → let s = c .before .before .before .before .before .before .before .args .s in misplaced (s .mesh .count) (s .cut) ≡ false
-well-placed c = sym (c .before .is-misplaced .ensures) ∙ c .if1 .left
+-- the places after each part that passes, seen from the next
+abbrev mesh-tested : tie.After-has-bad-entry → tie.After-enum-told
+mesh-tested c = c .before .before .before .before
 
-no-bad-state : (c : tie.Else2)
-    → let s = c .before .before .before .before .before .before .before .before .before .before .before .before .args .s in
-    overflows (s .mesh .count) 4 (s .flood .states) ≡ false
-no-bad-state c = sym (c .before .has-bad-state .ensures) ∙ c .if2 .left
+abbrev plan-tested : tie.Else2 → tie.Else1
+plan-tested c = c .before .before
 
-start-answer-requires : tie.Need-start-answer-requires
-start-answer-requires c κs = search needs
+abbrev cut-tested : tie.After-has-bad-entry2 → tie.Else2
+cut-tested c = c .before .before .before .before
+
+abbrev states-tested : tie.After-has-stray → tie.Else3
+states-tested c = c .before .before .before
+
+-- what is known after each
+mesh-passes : (c : tie.After-enum-told) → meshAnswer (session c .mesh) ≡ Accepted
+mesh-passes c = sym (c .before .before .check .ensures .0) ∙ c .enum-told .given .1
+
+start-passes : (c : tie.Else1) → let s = session (mesh-tested (c .before)) in startAnswer (s .mesh) (s .plan) ≡ Accepted
+unfolding startAnswer planFault
+start-passes c = simp (mesh-passes (mesh-tested (c .before)), sym (c .before .has-bad-entry .ensures) ∙ c .if1 .left)
+
+well-placed : (c : tie.Else2) → let s = session (mesh-tested (plan-tested c .before)) in misplaced (s .mesh .count) (s .cut) ≡ false
+well-placed c = sym (c .before .is-misplaced .ensures) ∙ c .if2 .left
+
+no-bad-state : (c : tie.Else3) → let s = session (mesh-tested (plan-tested (cut-tested (c .before)) .before)) in overflows (s .mesh .count) 4 (s .flood .states) ≡ false
+no-bad-state c = sym (c .before .has-bad-entry2 .ensures) ∙ c .if3 .left
+
+check-requires : tie.Need-check-requires
+check-requires c κs = search needs
 
 enum-told : tie.Need-enum-told
 enum-told c = search needs
@@ -29,36 +50,35 @@ enum-told-2 : tie.Need-enum-told-2
 enum-told-2 c = search needs
 
 returns : tie.Need-returns
-unfolding recordAnswer
-returns c = let t = c .enum-told2 .given .1 in simp (sym (c .before .before .start-answer .ensures) ∙ t) t
+unfolding recordAnswer startAnswer
+returns c = let t = c .enum-told2 .given .1 in simp (sym (c .before .before .check .ensures .0) ∙ t) t
 
-is-misplaced-requires : tie.Need-is-misplaced-requires
-is-misplaced-requires c κs = search needs
+has-bad-entry-requires : tie.Need-has-bad-entry-requires
+has-bad-entry-requires c κs = search needs
 
 ill-formed-requires : tie.Need-ill-formed-requires
 ill-formed-requires c κs = search needs
 
 returns-2 : tie.Need-returns-2
-unfolding recordAnswer
+unfolding recordAnswer startAnswer planFault
 returns-2 c =
     let d = c .before in
-    simp (start-passes (d .before .before), sym (d .before .is-misplaced .ensures) ∙ d .if1 .taken) (c .ill-formed .ensures)
+    simp (mesh-passes (mesh-tested (d .before)), sym (d .before .has-bad-entry .ensures) ∙ d .if1 .taken) (c .ill-formed .ensures)
 
-has-bad-state-requires : tie.Need-has-bad-state-requires
-has-bad-state-requires c κs = search needs
+is-misplaced-requires : tie.Need-is-misplaced-requires
+is-misplaced-requires c κs = search needs
 
 ill-formed-requires-2 : tie.Need-ill-formed-requires-2
 ill-formed-requires-2 c κs = search needs
 
 returns-3 : tie.Need-returns-3
-unfolding recordAnswer floodFault
+unfolding recordAnswer
 returns-3 c =
     let d = c .before in
-    let e = d .before .before .before .before .before in
-    simp (start-passes (e .before .before), well-placed e, sym (d .before .has-bad-state .ensures) ∙ d .if2 .taken) (c .ill-formed2 .ensures)
+    simp (start-passes (d .before .before), sym (d .before .is-misplaced .ensures) ∙ d .if2 .taken) (c .ill-formed2 .ensures)
 
-has-stray-requires : tie.Need-has-stray-requires
-has-stray-requires c κs = search needs
+has-bad-entry-requires-2 : tie.Need-has-bad-entry-requires-2
+has-bad-entry-requires-2 c κs = search needs
 
 ill-formed-requires-3 : tie.Need-ill-formed-requires-3
 ill-formed-requires-3 c κs = search needs
@@ -67,32 +87,48 @@ returns-4 : tie.Need-returns-4
 unfolding recordAnswer floodFault
 returns-4 c =
     let d = c .before in
-    let f = d .before .before .before .before in
-    let e = f .before .before .before .before .before in
-    simp (start-passes (e .before .before), well-placed e, no-bad-state f, sym (d .before .has-stray .ensures) ∙ d .if3 .taken) (c .ill-formed3 .ensures)
+    let e = cut-tested (d .before) in
+    simp (start-passes (plan-tested e), well-placed e, sym (d .before .has-bad-entry2 .ensures) ∙ d .if3 .taken) (c .ill-formed3 .ensures)
+
+has-stray-requires : tie.Need-has-stray-requires
+has-stray-requires c κs = search needs
+
+ill-formed-requires-4 : tie.Need-ill-formed-requires-4
+ill-formed-requires-4 c κs = search needs
 
 returns-5 : tie.Need-returns-5
 unfolding recordAnswer floodFault
 returns-5 c =
-    let f = c .before .before .before .before in
-    let e = f .before .before .before .before .before in
-    simp (start-passes (e .before .before), well-placed e, no-bad-state f, sym (c .before .has-stray .ensures) ∙ c .if3 .left)
+    let d = c .before in
+    let f = states-tested (d .before) in
+    let e = cut-tested (f .before) in
+    simp (start-passes (plan-tested e), well-placed e, no-bad-state f, sym (d .before .has-stray .ensures) ∙ d .if4 .taken) (c .ill-formed4 .ensures)
+
+returns-6 : tie.Need-returns-6
+unfolding recordAnswer floodFault
+returns-6 c =
+    let f = states-tested (c .before) in
+    let e = cut-tested (f .before) in
+    simp (start-passes (plan-tested e), well-placed e, no-bad-state f, sym (c .before .has-stray .ensures) ∙ c .if4 .left)
 
 pub record-answer-spec : {M : Type 1} → statement M
 record-answer-spec =
     tie.close
     (tie.spec
-    start-answer-requires
+    check-requires
     enum-told
     enum-told-2
     returns
-    is-misplaced-requires
+    has-bad-entry-requires
     ill-formed-requires
     returns-2
-    has-bad-state-requires
+    is-misplaced-requires
     ill-formed-requires-2
     returns-3
-    has-stray-requires
+    has-bad-entry-requires-2
     ill-formed-requires-3
     returns-4
-    returns-5)
+    has-stray-requires
+    ill-formed-requires-4
+    returns-5
+    returns-6)

@@ -25,7 +25,7 @@ returns c =
     let s = c .before .before .before .before .before in
     let a = s .args in
     let e = c .fill-ends .ensures in (
-      topology-digraph (a .mesh) (a .plan) (s .pre .0) (a .k) (s .pre .1) _ _ (e .0) (e .1),
+      topology-digraph (a .mesh) (a .plan) (s .pre .0) (a .k) (s .pre .1) _ _ (e .0) (e .1) _ _ _,
       topology-failure (a .mesh) (a .plan) (s .pre .0) (a .k) (s .pre .1) _ _ (e .0) (e .1),
     )
 
