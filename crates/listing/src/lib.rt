@@ -8,6 +8,8 @@ ghost use Rattle.listing.specs.Listing.{listAnswer};
 use crate::line::print;
 use crate::line::put_number;
 use crate::line::put_word;
+use clients::session::begin;
+use clients::session::recover;
 use flood::Route;
 use mesh::Answer;
 use mesh::Link;
@@ -15,9 +17,6 @@ use mesh::Mesh;
 use mesh::Plan;
 use recovery::Report;
 use recovery::Session;
-
-// The allowance of an unhindered run.
-const UNHINDERED: u32 = 4294967295;
 
 // Prints the listing of a book to standard output. A first line holds N and L. Each link line holds number, ends and
 // direction. Each cut line holds link, x, y, deliveries of an unhindered run, and the route's links from x on. A refusal of
@@ -32,16 +31,17 @@ pub fn print_book(book: &[u8]) -> Answer
         return a;
     };
     let m = d.mesh;
-    let p = planner::plan(m);
-    let b = p.answer;
+    let begun = begin(m);
+    let b = begun.planning;
     let Answer::Accepted = b else {
         print_refusal(b);
         return b;
     };
-    let plan = p.plan;
+    let fresh = begun.session;
+    let plan = fresh.plan;
     print_mesh(m);
     print_links(m, plan);
-    print_cuts(m, plan);
+    print_cuts(fresh);
     b
 }
 
@@ -99,9 +99,9 @@ fn put_link(line: &mut [u8], i: u64, l: Link, direction: u8) {
     print(line, e);
 }
 
-fn print_cuts(m: Mesh, plan: Plan) {
-    let count = m.count;
-    let fresh = Session::start(m, plan).session;
+fn print_cuts(fresh: Session) {
+    let mesh = fresh.mesh;
+    let count = mesh.count;
     let mut k: u16 = 0;
     while k < count {
         print_cut(fresh, k);
@@ -109,17 +109,14 @@ fn print_cuts(m: Mesh, plan: Plan) {
     }
 }
 
-// Cuts link k on a fresh session and lets it run.
+// What a cut of link k leads to on a fresh session.
 fn print_cut(fresh: Session, k: u16) {
-    let c = fresh.cut(k);
-    let cut = c.session;
-    let r = cut.run(UNHINDERED);
-    let report = r.report;
+    let recovered = recover(fresh, k);
+    let report = recovered.report;
     let Report::Made { count, rest: _ } = report else {
         return;
     };
-    let ended = r.session;
-    let routed = ended.route();
+    let routed = recovered.routed;
     let route = routed.route;
     let mesh = fresh.mesh;
     let plan = fresh.plan;

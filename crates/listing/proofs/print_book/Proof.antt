@@ -9,8 +9,9 @@ use Rattle.mesh.specs.declared.Answer.the-variants.{Accepted, Refused}
 use Rattle.mesh.specs.Mesh.{andThen}
 use Rattle.codec.specs.declared.Decoded.{Decoded}
 use Rattle.codec.specs.Book.{decoded}
-use Rattle.planner.specs.declared.Planned.{Planned}
 use Rattle.planner.specs.Plan.{planned}
+use Rattle.clients.specs.declared.Begun.{Begun}
+use Rattle.clients.specs.Sessions.{begun}
 use Rattle.listing.specs.Listing.{listAnswer}
 use Rattle.listing.proofs.print_book.Statement.{statement}
 use Rattle.listing.proofs.print_book.Tie as tie
@@ -20,10 +21,10 @@ stops : (b : List ℕ) {number place : ℕ} (d : Decoded) → d ≡ decoded b �
 unfolding listAnswer
 stops b d e t = t ∙ sym (ap (λ (a : Answer). andThen a (planned (decoded b .mesh) .answer)) (ap (λ (z : Decoded). z .answer) (sym e) ∙ t))
 
-goes : (b : List ℕ) (d : Decoded) (p : Planned) → d ≡ decoded b → d .answer ≡ Accepted → p ≡ planned (d .mesh) → p .answer ≡ listAnswer b
+goes : (b : List ℕ) (d : Decoded) (p : Begun) → d ≡ decoded b → d .answer ≡ Accepted → p ≡ begun (d .mesh) → p .planning ≡ listAnswer b
 unfolding listAnswer
 goes b d p e t q =
-    ap (λ (z : Planned). z .answer) q
+    ap (λ (z : Begun). z .planning) q
     ∙ ap (λ (z : Decoded). planned (z .mesh) .answer) e
     ∙ sym (ap (λ (a : Answer). andThen a (planned (decoded b .mesh) .answer)) (ap (λ (z : Decoded). z .answer) (sym e) ∙ t))
 
@@ -42,14 +43,14 @@ print-refusal-requires c κs = search needs
 returns : tie.Need-returns
 returns c = let d = c .before .before .before .decode in stops _ (d .result) (d .ensures) (c .before .enum-told2 .given .1)
 
-plan-requires : tie.Need-plan-requires
-plan-requires c κs = search needs
+begin-requires : tie.Need-begin-requires
+begin-requires c κs = search needs
 
 -- what is known once planning has answered
-planned-answers : (c : tie.After-plan) → c .plan .result .answer ≡ listAnswer (now (c .before .before .before .before .before .before .args .book))
+planned-answers : (c : tie.After-begin) → c .begin .result .planning ≡ listAnswer (now (c .before .before .before .before .before .before .args .book))
 planned-answers c =
     let d = c .before .before .before .before .decode in
-    goes _ (d .result) (c .plan .result) (d .ensures) (c .before .before .enum-told .given .1) (c .plan .ensures)
+    goes _ (d .result) (c .begin .result) (d .ensures) (c .before .before .enum-told .given .1) (c .begin .ensures)
 
 enum-told-3 : tie.Need-enum-told-3
 enum-told-3 c = search needs
@@ -73,7 +74,7 @@ print-cuts-requires : tie.Need-print-cuts-requires
 print-cuts-requires c κs = search needs
 
 returns-3 : tie.Need-returns-3
-returns-3 c = planned-answers (c .before .before .before .before .before .before)
+returns-3 c = planned-answers (c .before .before .before .before .before .before .before)
 
 pub print-book-spec : {M : Type 1} → statement M
 print-book-spec =
@@ -84,7 +85,7 @@ print-book-spec =
     enum-told-2
     print-refusal-requires
     returns
-    plan-requires
+    begin-requires
     enum-told-3
     enum-told-4
     print-refusal-requires-2

@@ -5,13 +5,10 @@ use Rattle.listing.proofs.print_cuts.Statement.{statement}
 use Rattle.listing.proofs.print_cuts.Tie as tie
 
 abbrev Inv-loop : tie.InvT-loop
-Inv-loop count fresh k₀ k = k ≤ count
+Inv-loop fresh count k₀ k = k ≤ count
 
 abbrev μ-loop : tie.MeasureT-loop
-μ-loop count fresh k₀ k = count - k
-
-start-requires : tie.Need-start-requires Inv-loop μ-loop
-start-requires c κs = search needs
+μ-loop fresh count k₀ k = count - k
 
 loop-holds : tie.Need-loop-holds Inv-loop μ-loop
 loop-holds c = search needs
@@ -37,7 +34,6 @@ print-cuts-spec =
     (tie.spec
     Inv-loop
     μ-loop
-    start-requires
     loop-holds
     print-cut-requires
     add-k
