@@ -27,7 +27,7 @@ pub(crate) fn is_live(v: u8) -> bool
     ensures { λ r. ⌜ r ≡ live v ⌝ }
 {
     match v {
-        1 | 2 | 3 => true,
+        1..=3 => true,
         0 | 4 | 5..=255 => false,
     }
 }
