@@ -10,9 +10,14 @@ use Rattle.guarantees.specs.Demand.{startedOn}
 use Rattle.clients.specs.declared.Begun.{Begun}
 use Rattle.clients.specs.declared.Recovered.{Recovered}
 
--- the session that a start on m and its plan gives, with the answers of planning and of the start
+-- the session that a start on m and its plan gives, that plan, and the answers of planning and of the start
 abbrev pub begun : Mesh → Begun
-begun m = record { session = startedOn m; planning = planned m .answer; starting = started m (planned m .plan) .answer }
+begun m = record {
+  session = startedOn m;
+  plan = planned m .plan;
+  planning = planned m .answer;
+  starting = started m (planned m .plan) .answer;
+}
 
 -- a run with the largest allowance there is
 abbrev pub unhindered : Call

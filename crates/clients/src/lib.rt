@@ -7,7 +7,10 @@ mod lend;
 pub mod list;
 pub mod session;
 
+use codec::Decoded;
+use codec::Encoded;
 use mesh::Answer;
+use mesh::Plan;
 use recovery::Report;
 use recovery::Routed;
 use recovery::Session;
@@ -29,6 +32,7 @@ pub(crate) struct Made {
 // What planning and starting on a mesh give.
 pub struct Begun {
     pub session: Session,
+    pub plan: Plan,
     pub planning: Answer,
     pub starting: Answer,
 }
@@ -37,6 +41,19 @@ pub struct Begun {
 pub struct Recovered {
     pub report: Report,
     pub routed: Routed,
+}
+
+// What reading a book and writing its mesh give.
+pub struct Rewritten {
+    pub reading: Answer,
+    pub writing: Encoded,
+}
+
+// What checking a mesh, writing it and reading what was written give.
+pub struct Reread {
+    pub checking: Answer,
+    pub writing: Encoded,
+    pub reading: Decoded,
 }
 
 // One byte of a record, and the answer to showing the record.

@@ -1,14 +1,32 @@
 // Where the lists of demand 3 begin, and what one cut leads to.
 ghost use mathlib.Core.Path.{_≡_};
+ghost use Rattle.recovery.specs.Calls.{started, routed};
 ghost use Rattle.guarantees.specs.Demand.{Sized};
 ghost use Rattle.clients.specs.Sessions.{begun, recovered};
 use crate::Begun;
 use crate::Recovered;
 use mesh::Mesh;
+use mesh::Plan;
+use recovery::Change;
+use recovery::Routed;
 use recovery::Session;
 
 // The allowance of an unhindered run.
 const UNHINDERED: u32 = 4294967295;
+
+// A start on any mesh and plan.
+pub fn start(m: Mesh, plan: Plan) -> Change
+    ensures { λ r. ⌜ r ≡ started m plan ⌝ }
+{
+    Session::start(m, plan)
+}
+
+// The route query on any session.
+pub fn route(s: Session) -> Routed
+    ensures { λ r. ⌜ r ≡ routed s ⌝ }
+{
+    s.route()
+}
 
 // Plans a mesh and starts a session on the mesh and its plan.
 pub fn begin(m: Mesh) -> Begun
@@ -17,11 +35,12 @@ pub fn begin(m: Mesh) -> Begun
     let planned = planner::plan(m);
     let planning = planned.answer;
     let plan = planned.plan;
-    let started = Session::start(m, plan);
+    let started = start(m, plan);
     let session = started.session;
     let starting = started.answer;
     Begun {
         session,
+        plan,
         planning,
         starting,
     }
@@ -37,6 +56,6 @@ pub fn recover(s: Session, link: u16) -> Recovered
     let run = cut.run(UNHINDERED);
     let report = run.report;
     let ended = run.session;
-    let routed = ended.route();
+    let routed = route(ended);
     Recovered { report, routed }
 }

@@ -10,6 +10,7 @@ use crate::print::word;
 use crate::session::show_route;
 use crate::session::store;
 use clients::list::make_calls;
+use clients::session::route;
 use recovery::Session;
 
 // The most calls of one list, and the numbers of their answers.
@@ -173,7 +174,7 @@ fn show_routes(copies: Copies, letter: u8) {
 
 fn show_query(s: Session, lent: bool) {
     form(lent);
-    let r = s.route();
+    let r = route(s);
     let a = r.answer;
     let row = r.route;
     let links = row.links;

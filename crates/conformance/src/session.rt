@@ -12,6 +12,7 @@ use crate::print::number;
 use crate::print::refused;
 use crate::print::word;
 use clients::session::begin;
+use clients::session::start;
 use flood::Flood;
 use mesh::Answer;
 use mesh::Link;
@@ -39,7 +40,7 @@ fn own_plan(m: Mesh) -> Session {
 }
 
 pub(crate) fn started(m: Mesh, plan: Plan) -> Session {
-    let c = Session::start(m, plan);
+    let c = start(m, plan);
     let a = c.answer;
     word(b"start");
     answer(a);

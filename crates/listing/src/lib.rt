@@ -38,7 +38,7 @@ pub fn print_book(book: &[u8]) -> Answer
         return b;
     };
     let fresh = begun.session;
-    let plan = fresh.plan;
+    let plan = begun.plan;
     print_mesh(m);
     print_links(m, plan);
     print_cuts(fresh);

@@ -1,11 +1,11 @@
 -- `clients::book::rewrite` meets its contract, and by the inverse laws of reading and writing an accepted book comes out as it is.
 use mathlib.Core.Path.{_≡_, _∙_, ap}
 use native.Mathlib.Omega.{arith}
+use lib.ListN.{length}
 use Rattle.scan.specs.Bytes.{AreBytes}
 use Rattle.codec.specs.declared.Decoded.{Decoded}
 use Rattle.codec.specs.Book.{encoded, outputAfter}
 use Rattle.codec.specs.Laws.Read.{output-decoded}
-use lib.ListN.{length}
 use borrow.Author.Needs.{needs}
 use Rattle.clients.proofs.book.rewrite.Statement.{statement}
 use Rattle.clients.proofs.book.rewrite.Tie as tie
@@ -27,7 +27,7 @@ returns c =
     let a = b .before .args in
     let small : AreBytes (a .book .now) = λ j. omega (arith, b .shared-slice-known .given j) in
     let out = e .encode .ensures .1 ∙ ap (λ (r : Decoded). outputAfter (r .mesh) (a .out .now)) (d .decode .ensures) in (
-      e .encode .ensures .0 ∙ ap (λ (r : Decoded). encoded (r .mesh) (length (a .out .now))) (d .decode .ensures),
+      rw (e .encode .ensures .0, d .decode .ensures),
       (out, λ accepted room. out ∙ output-decoded (a .book .now) (a .out .now) small accepted room .1),
     )
 
