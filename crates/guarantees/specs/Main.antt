@@ -150,7 +150,7 @@ pub call-follows : (s : Session) → Sized s → recordAnswer s ≡ Accepted →
 call-follows = call-as-ruled
 
 -- ---- demand 3, over every list of calls (contracts: crates/recovery/src/lib.rt, the calls of `Session`, and crates/recovery/src/in_place.rt, those
--- of them on a session that the host lends)
+-- of them on a session that the host lends; crates/clients/src/list.rt, the function by which programs make such a list)
 
 -- after any list of calls, by value and in place in any mix and refused ones included, from the session that a start on a planned mesh and its plan gives: at most 2 × (L - 1) deliveries
 -- since the cut that stands, accepted exactly where a link is under way, at rest one simple path from x to y; the session and every answer are those
