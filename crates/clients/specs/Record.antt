@@ -1,6 +1,5 @@
 -- Answers as numbers: 01's number and values for each case of the answers' enums. Definitions only.
 use Prim.Native.Nat.{ℕ}
-use mathlib.Core.Bool.{Bool, cond}
 use mathlib.Core.List.{List, [], _∷_, _++_}
 use lib.ListN.{length, drop}
 use Rattle.scan.specs.Total.{bit}
