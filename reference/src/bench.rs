@@ -62,13 +62,25 @@ fn repeat(job: u8, repeats: u32, book: &[u8], mesh: Mesh) -> Result<String, Stri
 }
 
 fn decode_often(repeats: u32, book: &[u8]) -> Answer {
+    let mut book = book.to_vec();
+    let place = length_place(&book);
     let mut last = Ok(());
-    for _ in 0..repeats {
-        let (mesh, answer) = decode(black_box(book));
+    for number in 0..repeats {
+        if let (Some(place), 1..) = (place, number) {
+            book[place] = (number % 255) as u8 + 1;
+        }
+        let (mesh, answer) = decode(black_box(&book));
         black_box(&mesh);
         last = black_box(answer);
     }
     last
+}
+
+/// Where the low byte of link 0's length stands, if it is written.
+fn length_place(book: &[u8]) -> Option<usize> {
+    let map = *book.get(4)?;
+    let ends = (map & 1) + (map >> 1 & 1);
+    (map & 4 != 0).then_some(5 + usize::from(ends))
 }
 
 /// The length of the book, 0 if it is refused.

@@ -15,7 +15,7 @@ pub(crate) fn four(a: u8, b: u8, c: u8, d: u8) -> u32 {
     two(a, b) as u32 + 65536 * (two(c, d) as u32)
 }
 
-pub(crate) fn run(job: u8, repeats: u32, book: &[u8]) {
+pub(crate) fn run(job: u8, repeats: u32, book: &mut [u8]) {
     let d = codec::decode(book);
     let a = d.answer;
     let Answer::Accepted = a else {
@@ -23,9 +23,19 @@ pub(crate) fn run(job: u8, repeats: u32, book: &[u8]) {
         io::write_all(STDOUT_FILENO, b"\n");
         return;
     };
+    if job == b'D' {
+        decode_job(book, repeats);
+        io::write_all(STDOUT_FILENO, b"\n");
+        return;
+    }
     let m = d.mesh;
+    run_on(job, repeats, m);
+    io::write_all(STDOUT_FILENO, b"\n");
+}
+
+// The jobs on a mesh.
+fn run_on(job: u8, repeats: u32, m: Mesh) {
     match job {
-        b'D' => decode_job(book, repeats),
         b'E' => encode_job(m, repeats),
         b'P' => plan_job(m, repeats),
         b'R' => sessions::run_job(m, repeats),
@@ -33,7 +43,6 @@ pub(crate) fn run(job: u8, repeats: u32, book: &[u8]) {
         b'U' => sessions::status_job(m, repeats),
         _ => {}
     }
-    io::write_all(STDOUT_FILENO, b"\n");
 }
 
 pub(crate) fn print_answer(a: Answer) {
@@ -50,26 +59,53 @@ pub(crate) fn print_answer(a: Answer) {
     }
 }
 
-// The mesh with another length of link 0, so that no two repeats are the same.
-fn with_length(m: Mesh, repeat: u32) -> Mesh {
+// The mesh with another length of link 0.
+pub(crate) fn with_length(m: Mesh, repeat: u32) -> Mesh {
     let mut n = m;
-    if 0 < m.count {
-        n.links[0].length = (repeat % 65535) as u16 + 1;
-    }
+    n.links[0].length = length_in(m.count, repeat);
     n
 }
 
-fn decode_job(book: &[u8], repeats: u32) {
-    let d = decode_often(book, repeats);
-    let a = d.answer;
-    io::write_all(STDOUT_FILENO, b"D ");
-    print_answer(a);
+// The length of link 0 in a repeat; 0 where there is no link.
+fn length_in(count: u16, repeat: u32) -> u16 {
+    if count == 0 {
+        return 0;
+    }
+    (repeat % 65535) as u16 + 1
 }
 
-fn decode_often(book: &[u8], repeats: u32) -> Decoded {
+// Where link 0's length stands in a book; past its end where it has none.
+fn length_place(book: &[u8]) -> usize {
+    if book.len() < 5 {
+        return book.len();
+    }
+    let b = book[4];
+    if b / 4 % 2 == 0 {
+        return book.len();
+    }
+    5 + (b % 2) as usize + (b / 2 % 2) as usize
+}
+
+fn decode_job(book: &mut [u8], repeats: u32) {
+    let d = decode_often(book, length_place(book), repeats);
+    let m = d.mesh;
+    io::write_all(STDOUT_FILENO, b"D ");
+    print_answer(mesh::check(m));
+}
+
+// Stores the low byte of link 0's length in a repeat.
+fn put_length(book: &mut [u8], place: usize, repeat: u32) {
+    if place < book.len() {
+        book[place] = (repeat % 255) as u8 + 1;
+    }
+}
+
+// Decodes the book with another low byte of link 0's length, at `place`, in each repeat.
+fn decode_often(book: &mut [u8], place: usize, repeats: u32) -> Decoded {
     let mut d = codec::decode(book);
     let mut i: u32 = 1;
     while i < repeats {
+        put_length(book, place, i);
         d = codec::decode(book);
         i += 1;
     }
@@ -99,11 +135,13 @@ fn read_back(out: &[u8], length: usize) -> usize {
     }
 }
 
-fn encode_often(m: Mesh, out: &mut [u8], repeats: u32) -> usize {
+fn encode_often(start: Mesh, out: &mut [u8], repeats: u32) -> usize {
+    let mut m = start;
     let mut length: usize = 0;
     let mut i: u32 = 0;
     while i < repeats {
-        length = encode_once(with_length(m, i), out);
+        m.links[0].length = length_in(m.count, i);
+        length = encode_once(m, out);
         i += 1;
     }
     length
@@ -125,11 +163,13 @@ fn plan_job(m: Mesh, repeats: u32) {
     print_directions(&directions, m.count as usize);
 }
 
-fn plan_often(m: Mesh, repeats: u32) -> Planned {
-    let mut p = planner::plan(with_length(m, 0));
+fn plan_often(start: Mesh, repeats: u32) -> Planned {
+    let mut m = start;
+    let mut p = planner::plan(m);
     let mut i: u32 = 1;
     while i < repeats {
-        p = planner::plan(with_length(m, i));
+        m.links[0].length = length_in(m.count, i);
+        p = planner::plan(m);
         i += 1;
     }
     p

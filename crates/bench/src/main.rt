@@ -1,6 +1,6 @@
 // Repeats one job on one book, for measuring: a job byte (D decode, E encode, P plan, R run to rest, L one delivery, U one status), a number of
 // repeats (4 bytes, low byte first), a book.
-// Prints one line from the last result.
+// The length of link 0 is another in each repeat. Prints one line from the last result.
 mod job;
 mod sessions;
 
@@ -14,5 +14,5 @@ fn main() {
     let repeats = job::four(head[1], head[2], head[3], head[4]);
     let mut space = [0u8; 2400];
     let length = io::read_full(STDIN_FILENO, &mut space);
-    job::run(head[0], repeats, &space[..length]);
+    job::run(head[0], repeats, &mut space[..length]);
 }

@@ -1,10 +1,12 @@
 // Jobs on a session in which the last link was just cut.
 use crate::job::print_answer;
+use crate::job::with_length;
 use libc::STDOUT_FILENO;
 use mesh::Answer;
 use mesh::Mesh;
 use recovery::Change;
 use recovery::Delivered;
+use recovery::Delivery;
 use recovery::Report;
 use recovery::Run;
 use recovery::Session;
@@ -33,6 +35,12 @@ fn just_cut(m: Mesh) -> Change {
     fresh.cut(last_link(m))
 }
 
+// The same session with another length of link 0: the jobs take the two by turns.
+fn other(m: Mesh) -> Session {
+    let c = just_cut(with_length(m, 0));
+    c.session
+}
+
 pub(crate) fn run_job(m: Mesh, repeats: u32) {
     io::write_all(STDOUT_FILENO, b"R ");
     let c = just_cut(m);
@@ -42,33 +50,46 @@ pub(crate) fn run_job(m: Mesh, repeats: u32) {
         return;
     };
     let s = c.session;
-    let r = run_often(s, repeats);
+    let r = run_often(s, other(m), repeats);
     io::print_decimal(STDOUT_FILENO, made_by(r) as u64);
 }
 
-fn run_often(s: Session, repeats: u32) -> Run {
-    let mut r = s.run(UNHINDERED);
+fn run_often(even: Session, odd: Session, repeats: u32) -> Run {
+    let mut r = even.run(UNHINDERED);
     let mut i: u32 = 1;
     while i < repeats {
-        r = s.run(UNHINDERED);
+        if i % 2 == 0 {
+            r = even.run(UNHINDERED);
+        } else {
+            r = odd.run(UNHINDERED);
+        }
         i += 1;
     }
     r
 }
 
-// How many deliveries the run made, 0 if it was refused or left a session that refuses a status. Makes use of the session, so that no compiler
-// can take it out.
+// Whether a session accepts a status. Makes use of the session, so that no compiler can take it out.
+fn is_accepted(s: Session) -> bool {
+    let t = s.status(0);
+    match t {
+        Status::Link {
+            state: _,
+            under_way: _,
+            route: _,
+        } => true,
+        Status::Refused {
+            number: _,
+            place: _,
+        } => false,
+    }
+}
+
+// How many deliveries the run made, 0 if it was refused or left a session that refuses a status.
 fn made_by(r: Run) -> u32 {
     let after = r.session;
-    let t = after.status(0);
-    let Status::Link {
-        state: _,
-        under_way: _,
-        route: _,
-    } = t
-    else {
+    if !is_accepted(after) {
         return 0;
-    };
+    }
     let report = r.report;
     match report {
         Report::Made { count, rest: _ } => count,
@@ -102,14 +123,23 @@ pub(crate) fn deliver_job(m: Mesh, repeats: u32) {
         return;
     };
     let s = c.session;
-    print_delivered(deliver_often(s, lowest_under_way(s), repeats));
+    let d = deliver_often(s, other(m), lowest_under_way(s), repeats);
+    let after = d.session;
+    let answer = d.answer;
+    if is_accepted(after) {
+        print_delivered(answer);
+    }
 }
 
-fn deliver_often(s: Session, link: u16, repeats: u32) -> Delivered {
-    let mut d = s.deliver(link).answer;
+fn deliver_often(even: Session, odd: Session, link: u16, repeats: u32) -> Delivery {
+    let mut d = even.deliver(link);
     let mut i: u32 = 1;
     while i < repeats {
-        d = s.deliver(link).answer;
+        if i % 2 == 0 {
+            d = even.deliver(link);
+        } else {
+            d = odd.deliver(link);
+        }
         i += 1;
     }
     d
@@ -141,14 +171,18 @@ pub(crate) fn status_job(m: Mesh, repeats: u32) {
         return;
     };
     let s = c.session;
-    print_status(status_often(s, last_link(m), repeats));
+    print_status(status_often(s, other(m), last_link(m), repeats));
 }
 
-fn status_often(s: Session, link: u16, repeats: u32) -> Status {
-    let mut t = s.status(link);
+fn status_often(even: Session, odd: Session, link: u16, repeats: u32) -> Status {
+    let mut t = even.status(link);
     let mut i: u32 = 1;
     while i < repeats {
-        t = s.status(link);
+        if i % 2 == 0 {
+            t = even.status(link);
+        } else {
+            t = odd.status(link);
+        }
         i += 1;
     }
     t

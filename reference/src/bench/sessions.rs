@@ -3,6 +3,7 @@
 
 use std::hint::black_box;
 
+use super::change_length;
 use crate::listing::scripts::delivery;
 use crate::mesh::Mesh;
 use crate::plan::plan;
@@ -11,10 +12,10 @@ use crate::session::{is_under_way, start, Delivery, Session};
 
 /// A run to rest; the session is copied for each.
 pub fn run_line(repeats: u32, mesh: &Mesh) -> String {
-    let made = just_cut(mesh).and_then(|(session, _)| {
+    let made = Subject::new(mesh).and_then(|subject| {
         let mut last = 0;
-        for _ in 0..repeats {
-            let mut copy = black_box(&session).clone();
+        for number in 0..repeats {
+            let mut copy = subject.copy(number);
             last = black_box(copy.run(u32::MAX))?.made;
             black_box(&copy);
         }
@@ -28,11 +29,11 @@ pub fn run_line(repeats: u32, mesh: &Mesh) -> String {
 
 /// One delivery, on the lowest link under way; the session is copied for each.
 pub fn delivery_line(repeats: u32, mesh: &Mesh) -> String {
-    let answer = just_cut(mesh).and_then(|(session, _)| {
-        let link = lowest_under_way(&session);
-        let mut last = deliver(&session, link);
-        for _ in 1..repeats {
-            last = deliver(&session, link);
+    let answer = Subject::new(mesh).and_then(|subject| {
+        let link = lowest_under_way(&subject.sessions[0]);
+        let mut last = deliver(subject.copy(0), link);
+        for number in 1..repeats {
+            last = deliver(subject.copy(number), link);
         }
         last
     });
@@ -41,16 +42,45 @@ pub fn delivery_line(repeats: u32, mesh: &Mesh) -> String {
 
 /// One status, of the last link.
 pub fn status_line(repeats: u32, mesh: &Mesh) -> String {
-    let status = just_cut(mesh).and_then(|(session, last)| {
-        let mut status = session.status(last);
-        for _ in 1..repeats {
-            status = black_box(black_box(&session).status(black_box(last)));
+    let status = Subject::new(mesh).and_then(|subject| {
+        let last = subject.last;
+        let mut status = subject.sessions[0].status(last);
+        for number in 1..repeats {
+            let session = subject.session(number);
+            status = black_box(session.status(black_box(last)));
         }
         status
     });
     match status {
         Ok(status) => format!("U {} {} {}", status.state, status.busy, status.route),
         Err(refusal) => refused("U", refusal),
+    }
+}
+
+/// What a job is repeated on: two sessions that differ in the length of
+/// link 0, taken by turns, each just after a cut of the last link.
+struct Subject {
+    sessions: [Session; 2],
+    last: u16,
+}
+
+impl Subject {
+    fn new(mesh: &Mesh) -> Result<Subject, Refusal> {
+        let mut other = mesh.clone();
+        change_length(&mut other, 0);
+        let (first, last) = just_cut(mesh)?;
+        let (second, _) = just_cut(&other)?;
+        let sessions = [first, second];
+        Ok(Subject { sessions, last })
+    }
+
+    fn session(&self, number: u32) -> &Session {
+        black_box(&self.sessions[number as usize % 2])
+    }
+
+    /// A call changes the session, so each repeat has a copy of its own.
+    fn copy(&self, number: u32) -> Session {
+        self.session(number).clone()
     }
 }
 
@@ -72,10 +102,9 @@ fn lowest_under_way(session: &Session) -> u16 {
     lowest.unwrap_or(0) as u16
 }
 
-fn deliver(session: &Session, link: u16) -> Result<Delivery, Refusal> {
-    let mut copy = black_box(session).clone();
-    let answer = black_box(copy.deliver(black_box(link)));
-    black_box(&copy);
+fn deliver(mut session: Session, link: u16) -> Result<Delivery, Refusal> {
+    let answer = black_box(session.deliver(black_box(link)));
+    black_box(&session);
     answer
 }
 

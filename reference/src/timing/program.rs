@@ -44,12 +44,33 @@ impl Program {
         Ok(Run { text, time, clock })
     }
 
+    /// This program as the last arguments of another one.
+    pub fn under(&self, path: &str, first: &[&str]) -> Program {
+        let mut program = Program::new(path, first);
+        program.arguments.push(self.path.clone());
+        program.arguments.extend(self.arguments.iter().cloned());
+        program
+    }
+
+    /// What a run says on standard error.
+    pub fn said(&self, input: &[u8]) -> io::Result<String> {
+        let mut child = self.command().stderr(Stdio::piped()).spawn()?;
+        exchange(&mut child, input)?;
+        let output = child.wait_with_output()?;
+        Ok(String::from_utf8_lossy(&output.stderr).into_owned())
+    }
+
     fn start(&self) -> io::Result<Child> {
-        Command::new(&self.path)
+        self.command().spawn()
+    }
+
+    fn command(&self) -> Command {
+        let mut command = Command::new(&self.path);
+        command
             .args(&self.arguments)
             .stdin(Stdio::piped())
-            .stdout(Stdio::piped())
-            .spawn()
+            .stdout(Stdio::piped());
+        command
     }
 }
 

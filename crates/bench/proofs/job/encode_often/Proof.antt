@@ -1,21 +1,24 @@
 -- `bench::job::encode_often` is safe and ends.
 use borrow.Author.Needs.{needs}
-use Prim.Native.Nat.{_-_, _≤_}
+use Prim.Native.Nat.{_+_, _-_, _≤_}
 use mathlib.Core.Path.{_≡_}
 use Rattle.bench.proofs.job.encode_often.Statement.{statement}
 use Rattle.bench.proofs.job.encode_often.Tie as tie
 
 abbrev Inv-loop : tie.InvT-loop
-Inv-loop m out₀ repeats length₀ i₀ out length i = (i ≤ repeats) × (lib.ListN.length out ≡ lib.ListN.length out₀)
+Inv-loop out₀ repeats m₀ length₀ i₀ out m length i = (i ≤ repeats + 1) × (lib.ListN.length out ≡ lib.ListN.length out₀)
 
 abbrev μ-loop : tie.MeasureT-loop
-μ-loop m out₀ repeats length₀ i₀ out length i = repeats - i
+μ-loop out₀ repeats m₀ length₀ i₀ out m length i = repeats - i
 
 loop-holds : tie.Need-loop-holds Inv-loop μ-loop
 loop-holds c = search needs
 
-with-length-requires : tie.Need-with-length-requires Inv-loop μ-loop
-with-length-requires c κs = search needs
+length-in-requires : tie.Need-length-in-requires Inv-loop μ-loop
+length-in-requires c κs = search needs
+
+way-write-given-m : tie.Need-way-write-given-m Inv-loop μ-loop
+way-write-given-m c = search needs
 
 encode-once-requires : tie.Need-encode-once-requires Inv-loop μ-loop
 encode-once-requires c κs = search needs
@@ -42,7 +45,8 @@ encode-often-spec =
     Inv-loop
     μ-loop
     loop-holds
-    with-length-requires
+    length-in-requires
+    way-write-given-m
     encode-once-requires
     add-i
     loop-less

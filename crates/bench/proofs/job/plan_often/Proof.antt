@@ -5,13 +5,10 @@ use Rattle.bench.proofs.job.plan_often.Statement.{statement}
 use Rattle.bench.proofs.job.plan_often.Tie as tie
 
 abbrev Inv-loop : tie.InvT-loop
-Inv-loop m repeats p₀ i₀ p i = i ≤ repeats + 1
+Inv-loop repeats m₀ p₀ i₀ m p i = i ≤ repeats + 1
 
 abbrev μ-loop : tie.MeasureT-loop
-μ-loop m repeats p₀ i₀ p i = repeats - i
-
-with-length-requires : tie.Need-with-length-requires Inv-loop μ-loop
-with-length-requires c κs = search needs
+μ-loop repeats m₀ p₀ i₀ m p i = repeats - i
 
 plan-requires : tie.Need-plan-requires Inv-loop μ-loop
 plan-requires c κs = search needs
@@ -19,8 +16,11 @@ plan-requires c κs = search needs
 loop-holds : tie.Need-loop-holds Inv-loop μ-loop
 loop-holds c = search needs
 
-with-length-requires-2 : tie.Need-with-length-requires-2 Inv-loop μ-loop
-with-length-requires-2 c κs = search needs
+length-in-requires : tie.Need-length-in-requires Inv-loop μ-loop
+length-in-requires c κs = search needs
+
+way-write-given-m : tie.Need-way-write-given-m Inv-loop μ-loop
+way-write-given-m c = search needs
 
 plan-requires-2 : tie.Need-plan-requires-2 Inv-loop μ-loop
 plan-requires-2 c κs = search needs
@@ -43,10 +43,10 @@ plan-often-spec =
     (tie.spec
     Inv-loop
     μ-loop
-    with-length-requires
     plan-requires
     loop-holds
-    with-length-requires-2
+    length-in-requires
+    way-write-given-m
     plan-requires-2
     add-i
     loop-less

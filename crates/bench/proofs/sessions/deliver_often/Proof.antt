@@ -5,10 +5,10 @@ use Rattle.bench.proofs.sessions.deliver_often.Statement.{statement}
 use Rattle.bench.proofs.sessions.deliver_often.Tie as tie
 
 abbrev Inv-loop : tie.InvT-loop
-Inv-loop s link repeats d₀ i₀ d i = i ≤ repeats + 1
+Inv-loop even odd link repeats d₀ i₀ d i = i ≤ repeats + 1
 
 abbrev μ-loop : tie.MeasureT-loop
-μ-loop s link repeats d₀ i₀ d i = repeats - i
+μ-loop even odd link repeats d₀ i₀ d i = repeats - i
 
 deliver-requires : tie.Need-deliver-requires Inv-loop μ-loop
 deliver-requires c κs = search needs
@@ -18,6 +18,9 @@ loop-holds c = search needs
 
 deliver-requires-2 : tie.Need-deliver-requires-2 Inv-loop μ-loop
 deliver-requires-2 c κs = search needs
+
+deliver-requires-3 : tie.Need-deliver-requires-3 Inv-loop μ-loop
+deliver-requires-3 c κs = search needs
 
 add-i : tie.Need-add-i Inv-loop μ-loop
 add-i c = search needs
@@ -40,6 +43,7 @@ deliver-often-spec =
     deliver-requires
     loop-holds
     deliver-requires-2
+    deliver-requires-3
     add-i
     loop-less
     loop-again

@@ -5,10 +5,10 @@ use Rattle.bench.proofs.sessions.run_often.Statement.{statement}
 use Rattle.bench.proofs.sessions.run_often.Tie as tie
 
 abbrev Inv-loop : tie.InvT-loop
-Inv-loop s repeats r₀ i₀ r i = i ≤ repeats + 1
+Inv-loop even odd repeats r₀ i₀ r i = i ≤ repeats + 1
 
 abbrev μ-loop : tie.MeasureT-loop
-μ-loop s repeats r₀ i₀ r i = repeats - i
+μ-loop even odd repeats r₀ i₀ r i = repeats - i
 
 run-requires : tie.Need-run-requires Inv-loop μ-loop
 run-requires c κs = search needs
@@ -18,6 +18,9 @@ loop-holds c = search needs
 
 run-requires-2 : tie.Need-run-requires-2 Inv-loop μ-loop
 run-requires-2 c κs = search needs
+
+run-requires-3 : tie.Need-run-requires-3 Inv-loop μ-loop
+run-requires-3 c κs = search needs
 
 add-i : tie.Need-add-i Inv-loop μ-loop
 add-i c = search needs
@@ -40,6 +43,7 @@ run-often-spec =
     run-requires
     loop-holds
     run-requires-2
+    run-requires-3
     add-i
     loop-less
     loop-again

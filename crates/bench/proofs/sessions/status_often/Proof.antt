@@ -5,10 +5,10 @@ use Rattle.bench.proofs.sessions.status_often.Statement.{statement}
 use Rattle.bench.proofs.sessions.status_often.Tie as tie
 
 abbrev Inv-loop : tie.InvT-loop
-Inv-loop s link repeats t₀ i₀ t i = i ≤ repeats + 1
+Inv-loop even odd link repeats t₀ i₀ t i = i ≤ repeats + 1
 
 abbrev μ-loop : tie.MeasureT-loop
-μ-loop s link repeats t₀ i₀ t i = repeats - i
+μ-loop even odd link repeats t₀ i₀ t i = repeats - i
 
 status-requires : tie.Need-status-requires Inv-loop μ-loop
 status-requires c κs = search needs
@@ -18,6 +18,9 @@ loop-holds c = search needs
 
 status-requires-2 : tie.Need-status-requires-2 Inv-loop μ-loop
 status-requires-2 c κs = search needs
+
+status-requires-3 : tie.Need-status-requires-3 Inv-loop μ-loop
+status-requires-3 c κs = search needs
 
 add-i : tie.Need-add-i Inv-loop μ-loop
 add-i c = search needs
@@ -40,6 +43,7 @@ status-often-spec =
     status-requires
     loop-holds
     status-requires-2
+    status-requires-3
     add-i
     loop-less
     loop-again
