@@ -36,7 +36,7 @@ pub fn begin(
     starts: &[u8; 256],
     states: &mut [u8; 256],
     reached: &mut [bool; 64],
-    count: u16,
+    count: usize,
     x: u8,
 )
     ensures { λ _. ⌜ ((n y : ℕ) (h : List ℕ) → flood (now (states .exit)) (now (reached .exit))
@@ -54,7 +54,7 @@ fn arrive(
     starts: &[u8; 256],
     states: &mut [u8; 256],
     reached: &mut [bool; 64],
-    count: u16,
+    count: usize,
     y: u8,
     k: usize,
 ) -> usize
@@ -92,7 +92,7 @@ fn withdraw(
     tails: &[u8; 256],
     heads: &[u8; 256],
     states: &mut [u8; 256],
-    count: u16,
+    count: usize,
     x: u8,
     k: usize,
 ) -> usize
@@ -124,7 +124,7 @@ pub fn step(
     starts: &[u8; 256],
     states: &mut [u8; 256],
     reached: &mut [bool; 64],
-    count: u16,
+    count: usize,
     x: u8,
     y: u8,
     k: usize,

@@ -19,7 +19,7 @@ pub fn run(
     starts: &[u8; 256],
     states: &mut [u8; 256],
     reached: &mut [bool; 64],
-    count: u16,
+    count: usize,
     x: u8,
     y: u8,
     allowance: u32,

@@ -19,7 +19,14 @@ pub fn begin(t: Topology, f: Flood) -> Flood
     let open = t.open;
     let mut states = f.states;
     let mut reached = f.reached;
-    delivery::begin(&tails, &open, &mut states, &mut reached, t.count, t.source);
+    delivery::begin(
+        &tails,
+        &open,
+        &mut states,
+        &mut reached,
+        t.count as usize,
+        t.source,
+    );
     Flood { states, reached }
 }
 
@@ -38,7 +45,7 @@ pub fn step(t: Topology, j: u16, f: Flood) -> Flood
         &open,
         &mut states,
         &mut reached,
-        t.count,
+        t.count as usize,
         t.source,
         t.target,
         j as usize,
@@ -61,7 +68,7 @@ pub fn run(t: Topology, allowance: u32, f: Flood) -> Ran
         &open,
         &mut states,
         &mut reached,
-        t.count,
+        t.count as usize,
         t.source,
         t.target,
         allowance,
@@ -81,5 +88,5 @@ pub fn route_of(t: Topology, f: Flood) -> Route
     let tails = t.tails;
     let heads = t.heads;
     let states = f.states;
-    walk::follow(&tails, &heads, &states, t.count, t.source)
+    walk::follow(&tails, &heads, &states, t.count as usize, t.source)
 }

@@ -12,7 +12,7 @@ pub fn follow(
     tails: &[u8; 256],
     heads: &[u8; 256],
     states: &[u8; 256],
-    count: u16,
+    count: usize,
     source: u8,
 ) -> Route
     ensures { λ r. ⌜ ((n : ℕ) → r ≡ followed (graph n (now (tails .entry)) (now (heads .entry)) (min count 256)) source (now (states .entry))) ⌝ }

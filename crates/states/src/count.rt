@@ -6,7 +6,7 @@ use crate::links_of;
 use crate::state;
 
 // Links under way.
-pub fn under_way(states: &[u8; 256], count: u16) -> u16
+pub fn under_way(states: &[u8; 256], count: usize) -> u16
     ensures { λ r. ⌜ r ≡ underWayOf count (now (states .entry)) ⌝ }
 {
     let links = links_of(count);
@@ -22,14 +22,14 @@ pub fn under_way(states: &[u8; 256], count: u16) -> u16
 }
 
 // Taken links.
-pub fn taken(states: &[u8; 256], count: u16) -> u16
+pub fn taken(states: &[u8; 256], count: usize) -> u16
     ensures { λ r. ⌜ r ≡ takenOf count (now (states .entry)) ⌝ }
 {
     let links = links_of(count);
     let mut n: u16 = 0;
     let mut i: usize = 0;
     while i < links {
-        if state::is_taken(states[i]) {
+        if states[i] == state::TAKEN {
             n += 1;
         }
         i += 1;

@@ -10,10 +10,10 @@ pub mod search;
 mod state;
 
 // How many of `count` links the arrays have room for.
-pub fn links_of(count: u16) -> usize
+pub fn links_of(count: usize) -> usize
     ensures { λ r. ⌜ r ≡ min count 256 ⌝ }
 {
-    if count < 256 { count as usize } else { 256 }
+    if count < 256 { count } else { 256 }
 }
 
 // Whether a link in state v is under way: offered or refused.
@@ -30,12 +30,12 @@ pub fn is_under_way(v: u8) -> bool
 pub fn under_way(count: u16, states: [u8; 256]) -> u16
     ensures { λ r. ⌜ r ≡ underWayOf count states ⌝ }
 {
-    count::under_way(&states, count)
+    count::under_way(&states, count as usize)
 }
 
 // How many of the first `count` links are taken.
 pub fn taken(count: u16, states: [u8; 256]) -> u16
     ensures { λ r. ⌜ r ≡ takenOf count states ⌝ }
 {
-    count::taken(&states, count)
+    count::taken(&states, count as usize)
 }

@@ -17,7 +17,7 @@ fn offered(p: bool, v: u8) -> u8
 }
 
 // Every link that leaves a and may be offered becomes offered, whatever its state. Link i may be offered where starts[i] is its tail.
-pub fn offer_all(tails: &[u8; 256], starts: &[u8; 256], states: &mut [u8; 256], count: u16, a: u8)
+pub fn offer_all(tails: &[u8; 256], starts: &[u8; 256], states: &mut [u8; 256], count: usize, a: u8)
     ensures { λ _. ⌜ now (states .exit)
         ≡ sweepTo (λ i v. cond (leaving (now (tails .entry)) (now (starts .entry)) a i) 1 v) (min count 256) (now (states .entry)) ⌝ }
 {
@@ -35,7 +35,7 @@ pub fn offer_quiet(
     tails: &[u8; 256],
     starts: &[u8; 256],
     states: &mut [u8; 256],
-    count: u16,
+    count: usize,
     a: u8,
 ) -> bool
     ensures { λ r. ⌜ r ≡ any (λ i. opening (now (tails .entry)) (now (starts .entry)) a i (at (now (states .entry)) i)) (min count 256) ⌝ }
@@ -48,7 +48,7 @@ pub fn offer_quiet(
     while i < links {
         let v = states[i];
         let leaves = state::both(tails[i] == a, starts[i] == a);
-        let p = state::both(leaves, state::is_quiet(v));
+        let p = state::both(leaves, v == state::QUIET);
         states[i] = offered(p, v);
         found = state::either(found, p);
         i += 1;

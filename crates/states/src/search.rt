@@ -44,7 +44,7 @@ fn skip_unheld(tails: &[u8; 256], states: &[u8; 256], links: usize, a: u8) -> us
 }
 
 // Whether a link that leaves a is offered, taken or refused.
-pub fn some_held(tails: &[u8; 256], states: &[u8; 256], count: u16, a: u8) -> bool
+pub fn some_held(tails: &[u8; 256], states: &[u8; 256], count: usize, a: u8) -> bool
     ensures { λ r. ⌜ r ≡ any (held (now (tails .entry)) (now (states .entry)) a) (min count 256) ⌝ }
 {
     let links = links_of(count);
@@ -69,7 +69,7 @@ fn taken_within(ends: &[u8; 256], states: &[u8; 256], from: usize, a: u8) -> boo
     let mut found = false;
     let mut j: usize = 0;
     while j < BLOCK {
-        let taken = state::both(ends[from + j] == a, state::is_taken(states[from + j]));
+        let taken = state::both(ends[from + j] == a, states[from + j] == state::TAKEN);
         found = state::either(found, taken);
         j += 1;
     }
@@ -92,13 +92,13 @@ fn skip_untaken(ends: &[u8; 256], states: &[u8; 256], links: usize, a: u8) -> us
 }
 
 // The lowest taken link with the end a, where `ends` are the heads or the tails; the number of links where there is none.
-pub fn lowest_taken(ends: &[u8; 256], states: &[u8; 256], count: u16, a: u8) -> usize
+pub fn lowest_taken(ends: &[u8; 256], states: &[u8; 256], count: usize, a: u8) -> usize
     ensures { λ r. ⌜ r ≡ lowest (taken (now (ends .entry)) (now (states .entry)) a) (min count 256) ⌝ }
 {
     let links = links_of(count);
     let mut i = skip_untaken(ends, states, links, a);
     while i < links {
-        if state::both(ends[i] == a, state::is_taken(states[i])) {
+        if state::both(ends[i] == a, states[i] == state::TAKEN) {
             return i;
         }
         i += 1;
@@ -136,7 +136,7 @@ fn skip_idle(states: &[u8; 256], links: usize, from: usize) -> usize
 }
 
 // The lowest link under way from `from` on; the number of links where there is none.
-pub fn lowest_busy(states: &[u8; 256], count: u16, from: usize) -> usize
+pub fn lowest_busy(states: &[u8; 256], count: usize, from: usize) -> usize
     ensures { λ r. ⌜ r ≡ lowest (busyFrom (now (states .entry)) from) (min count 256) ⌝ }
 {
     let links = links_of(count);

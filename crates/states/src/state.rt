@@ -1,26 +1,11 @@
 // Tests on a link's state: 0 quiet, 1 offered, 2 taken, 3 refused, 4 released. And tests joined without a branch, for the loops.
 ghost use mathlib.Core.Path.{_≡_};
 ghost use mathlib.Core.Bool.{_&&_, _||_};
-ghost use lib.Dec.{eqb};
 ghost use Rattle.flood.specs.Machine.{live};
 
-pub(crate) fn is_quiet(v: u8) -> bool
-    ensures { λ r. ⌜ r ≡ eqb v 0 ⌝ }
-{
-    match v {
-        0 => true,
-        1 | 2 | 3 | 4 | 5..=255 => false,
-    }
-}
+pub(crate) const QUIET: u8 = 0;
 
-pub(crate) fn is_taken(v: u8) -> bool
-    ensures { λ r. ⌜ r ≡ eqb v 2 ⌝ }
-{
-    match v {
-        2 => true,
-        0 | 1 | 3 | 4 | 5..=255 => false,
-    }
-}
+pub(crate) const TAKEN: u8 = 2;
 
 // Offered, taken or refused.
 pub(crate) fn is_live(v: u8) -> bool

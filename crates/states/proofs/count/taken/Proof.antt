@@ -1,7 +1,7 @@
 -- `states::count::taken` meets its contract. The loop keeps how many of the first i links pass.
 use borrow.Author.Needs.{needs}
 use Prim.Native.Nat.{ℕ, _-_, _≤_}
-use mathlib.Core.Path.{_≡_, sym, _∙_}
+use mathlib.Core.Path.{_≡_, _∙_}
 use mathlib.Core.Logic.{⊎-elim}
 use mathlib.Core.Bool.{Bool}
 use native.Mathlib.Omega.{arith}
@@ -10,6 +10,7 @@ use Rattle.flood.specs.Topology.{takenOf}
 use Rattle.scan.specs.Total.{count, count-le, count-none, count-pass, count-fail}
 use Rattle.scan.specs.Entry.{at}
 use lib.Dec.{eqb}
+use borrow.Author.Tests.{eq-eqb, ne-eqb}
 use Rattle.states.proofs.count.taken.Statement.{statement}
 use Rattle.states.proofs.count.taken.Tie as tie
 
@@ -25,16 +26,13 @@ links-of-requires c κs = search needs
 loop-holds : tie.Need-loop-holds Inv-loop μ-loop
 loop-holds c = (omega arith, count-none _)
 
-element-copy-out-is-taken : tie.Need-element-copy-out-is-taken Inv-loop μ-loop
-element-copy-out-is-taken c = omega arith
-
-is-taken-requires : tie.Need-is-taken-requires Inv-loop μ-loop
-is-taken-requires c κs = search needs
+element-copy-out-if1 : tie.Need-element-copy-out-if1 Inv-loop μ-loop
+element-copy-out-if1 c = omega arith
 
 add-n : tie.Need-add-n Inv-loop μ-loop
 add-n c =
-    let l = c .before .before .before .before .loop in
-    let a = c .before .before .before .before .before .before .args in
+    let l = c .before .before .before .loop in
+    let a = c .before .before .before .before .before .args in
     omega (arith, count-le (λ j. eqb (at (now (a .states)) j) 2) (l .i))
 
 add-i : tie.Need-add-i Inv-loop μ-loop
@@ -45,14 +43,13 @@ loop-less c = omega arith
 
 loop-again : tie.Need-loop-again Inv-loop μ-loop
 loop-again c =
-    let l = c .before .before .before .before .loop in
-    let a = c .before .before .before .before .before .before .args in
-    let p : ℕ → Bool = λ j. eqb (at (now (a .states)) j) 2 in
-    let e = c .before .is-taken .ensures in (
+    let l = c .before .before .before .loop in
+    let a = c .before .before .before .before .before .args in
+    let p : ℕ → Bool = λ j. eqb (at (now (a .states)) j) 2 in (
       omega arith,
       ⊎-elim
-          (λ w. w .1 ∙ count-pass p (l .i) (l .n) (l .inv .1) (sym e ∙ w .0 .taken))
-          (λ w. w .1 ∙ count-fail p (l .i) (l .n) (l .inv .1) (sym e ∙ w .0 .left))
+          (λ w. w .1 ∙ count-pass p (l .i) (l .n) (l .inv .1) (eq-eqb _ _ (w .0 .taken)))
+          (λ w. w .1 ∙ count-fail p (l .i) (l .n) (l .inv .1) (ne-eqb _ _ (w .0 .left)))
           (c .if1 .came),
     )
 
@@ -72,8 +69,7 @@ taken-spec =
     μ-loop
     links-of-requires
     loop-holds
-    element-copy-out-is-taken
-    is-taken-requires
+    element-copy-out-if1
     add-n
     add-i
     loop-less

@@ -46,9 +46,6 @@ element-copy-out-both-2 c = omega arith
 both-requires : tie.Need-both-requires Inv-loop μ-loop
 both-requires c κs = search needs
 
-is-quiet-requires : tie.Need-is-quiet-requires Inv-loop μ-loop
-is-quiet-requires c κs = search needs
-
 both-requires-2 : tie.Need-both-requires-2 Inv-loop μ-loop
 both-requires-2 c κs = search needs
 
@@ -70,14 +67,13 @@ loop-less c = omega arith
 loop-again : tie.Need-loop-again Inv-loop μ-loop
 loop-again c =
     let joins = c .before .before in
-    let l = joins .before .before .before .before .before .before .before .loop in
-    let a = joins .before .before .before .before .before .before .before .before .before .args in
+    let l = joins .before .before .before .before .before .before .loop in
+    let a = joins .before .before .before .before .before .before .before .before .args in
     let f = new (now (a .tails)) (now (a .starts)) (a .a) in
     let p = opening (now (a .tails)) (now (a .starts)) (a .a) in
     let as-it-was = sweep-reads f (now (a .states)) (l .states) (l .i) (l .inv .1) in
-    let quiet = joins .before .is-quiet .ensures in
-    let leaves = joins .before .before .both .ensures in
-    let t : joins .both2 .result ≡ p (l .i) (at (l .states) (l .i)) = rw (← quiet, ← leaves) (joins .both2 .ensures) in
+    let leaves = joins .before .both .ensures in
+    let t : joins .both2 .result ≡ p (l .i) (at (l .states) (l .i)) = rw (← leaves) (joins .both2 .ensures) in
     let w : c .before .offered .result ≡ f (l .i) (at (l .states) (l .i)) = rw (← t) (c .before .offered .ensures) in (
       omega arith,
       sweep-turn f (now (a .states)) (l .states) (l .i) (l .inv .1) _ w,
@@ -103,7 +99,6 @@ offer-quiet-spec =
     element-copy-out-both
     element-copy-out-both-2
     both-requires
-    is-quiet-requires
     both-requires-2
     offered-requires
     element-write-states

@@ -1,5 +1,6 @@
 -- `states::search::lowest_taken` meets its contract. After the blocks the loop keeps that none below i passes.
 use Prim.Native.Nat.{_-_}
+use mathlib.Core.Path.{sym, _∙_}
 use native.Mathlib.Omega.{arith}
 use borrow.Author.Needs.{needs}
 use Rattle.flood.specs.Lent.{taken}
@@ -26,21 +27,18 @@ loop-holds c = c .skip-untaken .ensures .passed
 element-copy-out-both : tie.Need-element-copy-out-both Inv-loop μ-loop
 element-copy-out-both c = omega arith
 
-element-copy-out-is-taken : tie.Need-element-copy-out-is-taken Inv-loop μ-loop
-element-copy-out-is-taken c = omega arith
-
-is-taken-requires : tie.Need-is-taken-requires Inv-loop μ-loop
-is-taken-requires c κs = search needs
+element-copy-out-both-2 : tie.Need-element-copy-out-both-2 Inv-loop μ-loop
+element-copy-out-both-2 c = omega arith
 
 both-requires : tie.Need-both-requires Inv-loop μ-loop
 both-requires c κs = search needs
 
 returns : tie.Need-returns Inv-loop μ-loop
 returns c =
-    let l = c .before .before .before .before .before .before .loop in
-    let asked = c .before .before .before .before .before .before .before .before in
+    let l = c .before .before .before .before .before .loop in
+    let asked = c .before .before .before .before .before .before .before in
     rw (← asked .links-of .ensures)
-    (lowest-here (l .inv) (omega arith) (rw (← c .before .before .is-taken .ensures, ← c .before .both .ensures) (c .if1 .taken)))
+    (lowest-here (l .inv) (omega arith) (sym (c .before .both .ensures) ∙ c .if1 .taken))
 
 add-i : tie.Need-add-i Inv-loop μ-loop
 add-i c = omega arith
@@ -50,8 +48,8 @@ loop-less c = omega arith
 
 loop-again : tie.Need-loop-again Inv-loop μ-loop
 loop-again c =
-    let l = c .before .before .before .before .before .before .loop in
-    passed-one (l .inv) (omega arith) (rw (← c .before .before .is-taken .ensures, ← c .before .both .ensures) (c .if1 .left))
+    let l = c .before .before .before .before .before .loop in
+    passed-one (l .inv) (omega arith) (sym (c .before .both .ensures) ∙ c .if1 .left)
 
 returns-2 : tie.Need-returns-2 Inv-loop μ-loop
 returns-2 c = rw (← c .before .before .before .links-of .ensures) (lowest-nowhere (c .before .loop .inv) (c .loop-test .left))
@@ -66,8 +64,7 @@ lowest-taken-spec =
     skip-untaken-requires
     loop-holds
     element-copy-out-both
-    element-copy-out-is-taken
-    is-taken-requires
+    element-copy-out-both-2
     both-requires
     returns
     add-i

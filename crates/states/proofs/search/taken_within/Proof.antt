@@ -25,14 +25,11 @@ add-both c = omega arith
 element-copy-out-both : tie.Need-element-copy-out-both Inv-loop μ-loop
 element-copy-out-both c = omega arith
 
-add-is-taken : tie.Need-add-is-taken Inv-loop μ-loop
-add-is-taken c = omega arith
+add-both-2 : tie.Need-add-both-2 Inv-loop μ-loop
+add-both-2 c = omega arith
 
-element-copy-out-is-taken : tie.Need-element-copy-out-is-taken Inv-loop μ-loop
-element-copy-out-is-taken c = omega arith
-
-is-taken-requires : tie.Need-is-taken-requires Inv-loop μ-loop
-is-taken-requires c κs = search needs
+element-copy-out-both-2 : tie.Need-element-copy-out-both-2 Inv-loop μ-loop
+element-copy-out-both-2 c = omega arith
 
 both-requires : tie.Need-both-requires Inv-loop μ-loop
 both-requires c κs = search needs
@@ -48,11 +45,10 @@ loop-less c = omega arith
 
 loop-again : tie.Need-loop-again Inv-loop μ-loop
 loop-again c =
-    let l = c .before .before .before .before .before .before .loop in
-    let a = c .before .before .before .before .before .before .before .args in
+    let l = c .before .before .before .before .before .loop in
+    let a = c .before .before .before .before .before .before .args in
     let p : ℕ → Bool = λ k. taken (now (a .ends)) (now (a .states)) (a .a) (a .from + k) in
-    let t : c .before .both .result ≡ p (l .j) = rw (← c .before .before .is-taken .ensures) (c .before .both .ensures) in
-    (omega arith, any-turn p (l .j) (l .found) _ _ (l .inv .1) t (c .either .ensures))
+    (omega arith, any-turn p (l .j) (l .found) _ _ (l .inv .1) (c .before .both .ensures) (c .either .ensures))
 
 returns : tie.Need-returns Inv-loop μ-loop
 returns c =
@@ -69,9 +65,8 @@ taken-within-spec =
     loop-holds
     add-both
     element-copy-out-both
-    add-is-taken
-    element-copy-out-is-taken
-    is-taken-requires
+    add-both-2
+    element-copy-out-both-2
     both-requires
     either-requires
     add-j
