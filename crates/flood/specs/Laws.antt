@@ -18,7 +18,3 @@ pub mod RouteQuery
 pub mod Bound
 pub mod Cut
 pub mod EveryPath
-pub mod Loops
-pub mod Moves
-pub mod Turns
-pub mod Follow

@@ -44,7 +44,7 @@ pub(crate) fn is_resting(s: Session) -> bool
     let mesh = s.mesh;
     let flood = s.flood;
     let states = flood.states;
-    flood::under_way(mesh.count, states) == 0
+    states::under_way(mesh.count, states) == 0
 }
 
 // Cut: 12, 22.
@@ -84,7 +84,7 @@ pub(crate) fn deliver_answer(s: Session, link: u16) -> Answer
     }
     let flood = s.flood;
     let states = flood.states;
-    if flood::is_under_way(states[link as usize]) {
+    if states::is_under_way(states[link as usize]) {
         return Answer::Accepted;
     }
     refused(24, link)

@@ -133,7 +133,7 @@ impl Session {
         let mesh = self.mesh;
         let plan = self.plan;
         let before = self.flood;
-        let flood = flood::begin(topology::topology(mesh, plan, link), before);
+        let flood = flooding::begin(topology::topology(mesh, plan, link), before);
         let cut = Cut::Link(link);
         let session = Session {
             mesh,
@@ -170,7 +170,7 @@ impl Session {
         let k = cut_link(cut);
         let t = topology::topology(mesh, plan, k);
         let before = self.flood;
-        let flood = flood::step(t, link, before);
+        let flood = flooding::step(t, link, before);
         let i = link as usize;
         let states = flood.states;
         let tails = t.tails;
@@ -201,7 +201,7 @@ impl Session {
         let plan = self.plan;
         let cut = self.cut;
         let before = self.flood;
-        let o = flood::run(
+        let o = flooding::run(
             topology::topology(mesh, plan, cut_link(cut)),
             allowance,
             before,
@@ -248,7 +248,7 @@ impl Session {
         let mesh = self.mesh;
         let flood = self.flood;
         let states = flood.states;
-        let under_way = flood::under_way(mesh.count, states);
+        let under_way = states::under_way(mesh.count, states);
         let cut = self.cut;
         let route = route_length(mesh.count, cut, states, under_way);
         let state = states[link as usize];
@@ -276,7 +276,7 @@ impl Session {
         let plan = self.plan;
         let cut = self.cut;
         let flood = self.flood;
-        let route = flood::route_of(topology::topology(mesh, plan, cut_link(cut)), flood);
+        let route = flooding::route_of(topology::topology(mesh, plan, cut_link(cut)), flood);
         Routed { route, answer }
     }
 }
@@ -329,5 +329,5 @@ fn route_length(count: u16, cut: Cut, states: [u8; Session::MOST_LINKS], busy: u
     if busy != 0 {
         return 0;
     }
-    flood::taken(count, states)
+    states::taken(count, states)
 }

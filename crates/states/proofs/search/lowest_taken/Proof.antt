@@ -1,0 +1,73 @@
+-- `states::search::lowest_taken` meets its contract. After the blocks the loop keeps that none below i passes.
+use Prim.Native.Nat.{_-_}
+use mathlib.Core.Path.{sym, _∙_}
+use native.Mathlib.Omega.{arith}
+use borrow.Author.Needs.{needs}
+use Rattle.flood.specs.Lent.{taken}
+use Rattle.states.specs.Scan.{Passed}
+use Rattle.states.specs.Laws.Loops.{passed-one, lowest-here, lowest-nowhere}
+use Rattle.states.proofs.search.lowest_taken.Statement.{statement}
+use Rattle.states.proofs.search.lowest_taken.Tie as tie
+
+abbrev Inv-loop : tie.InvT-loop
+Inv-loop ends states count a links i₀ i = Passed (taken ends states a) links i
+
+abbrev μ-loop : tie.MeasureT-loop
+μ-loop ends states count a links i₀ i = links - i
+
+links-of-requires : tie.Need-links-of-requires Inv-loop μ-loop
+links-of-requires c κs = search needs
+
+skip-untaken-requires : tie.Need-skip-untaken-requires Inv-loop μ-loop
+skip-untaken-requires c κs = search needs
+
+loop-holds : tie.Need-loop-holds Inv-loop μ-loop
+loop-holds c = c .skip-untaken .ensures .passed
+
+element-copy-out-both : tie.Need-element-copy-out-both Inv-loop μ-loop
+element-copy-out-both c = omega arith
+
+element-copy-out-both-2 : tie.Need-element-copy-out-both-2 Inv-loop μ-loop
+element-copy-out-both-2 c = omega arith
+
+both-requires : tie.Need-both-requires Inv-loop μ-loop
+both-requires c κs = search needs
+
+returns : tie.Need-returns Inv-loop μ-loop
+returns c =
+    let l = c .before .before .before .before .before .loop in
+    let asked = c .before .before .before .before .before .before .before in
+    rw (← asked .links-of .ensures)
+    (lowest-here (l .inv) (omega arith) (sym (c .before .both .ensures) ∙ c .if1 .taken))
+
+add-i : tie.Need-add-i Inv-loop μ-loop
+add-i c = omega arith
+
+loop-less : tie.Need-loop-less Inv-loop μ-loop
+loop-less c = omega arith
+
+loop-again : tie.Need-loop-again Inv-loop μ-loop
+loop-again c =
+    let l = c .before .before .before .before .before .loop in
+    passed-one (l .inv) (omega arith) (sym (c .before .both .ensures) ∙ c .if1 .left)
+
+returns-2 : tie.Need-returns-2 Inv-loop μ-loop
+returns-2 c = rw (← c .before .before .before .links-of .ensures) (lowest-nowhere (c .before .loop .inv) (c .loop-test .left))
+
+pub lowest-taken-spec : {M : Type 1} → statement M
+lowest-taken-spec =
+    tie.close
+    (tie.spec
+    Inv-loop
+    μ-loop
+    links-of-requires
+    skip-untaken-requires
+    loop-holds
+    element-copy-out-both
+    element-copy-out-both-2
+    both-requires
+    returns
+    add-i
+    loop-less
+    loop-again
+    returns-2)

@@ -1,0 +1,84 @@
+-- `states::search::some_held` meets its contract. After the blocks the loop keeps that none below i passes.
+use Prim.Native.Nat.{_-_}
+use native.Mathlib.Omega.{arith}
+use borrow.Author.Needs.{needs}
+use Rattle.flood.specs.Lent.{held}
+use Rattle.states.specs.Scan.{Passed}
+use Rattle.states.specs.Laws.Loops.{any-stopped, passed-one, any-here, any-nowhere}
+use Rattle.states.proofs.search.some_held.Statement.{statement}
+use Rattle.states.proofs.search.some_held.Tie as tie
+
+abbrev Inv-loop : tie.InvT-loop
+Inv-loop tails states count a links i₀ i = Passed (held tails states a) links i
+
+abbrev μ-loop : tie.MeasureT-loop
+μ-loop tails states count a links i₀ i = links - i
+
+links-of-requires : tie.Need-links-of-requires Inv-loop μ-loop
+links-of-requires c κs = search needs
+
+skip-unheld-requires : tie.Need-skip-unheld-requires Inv-loop μ-loop
+skip-unheld-requires c κs = search needs
+
+sub-if1 : tie.Need-sub-if1 Inv-loop μ-loop
+sub-if1 c = search needs
+
+returns : tie.Need-returns Inv-loop μ-loop
+returns c = rw (← c .before .before .links-of .ensures) (any-stopped (c .before .skip-unheld .ensures) (omega arith))
+
+loop-holds : tie.Need-loop-holds Inv-loop μ-loop
+loop-holds c = c .before .skip-unheld .ensures .passed
+
+element-copy-out-both : tie.Need-element-copy-out-both Inv-loop μ-loop
+element-copy-out-both c = omega arith
+
+element-copy-out-is-live : tie.Need-element-copy-out-is-live Inv-loop μ-loop
+element-copy-out-is-live c = omega arith
+
+is-live-requires : tie.Need-is-live-requires Inv-loop μ-loop
+is-live-requires c κs = search needs
+
+both-requires : tie.Need-both-requires Inv-loop μ-loop
+both-requires c κs = search needs
+
+returns-2 : tie.Need-returns-2 Inv-loop μ-loop
+returns-2 c =
+    let l = c .before .before .before .before .before .before .loop in
+    let asked = c .before .before .before .before .before .before .before .before .before in
+    rw (← asked .links-of .ensures)
+    (any-here (l .inv) (omega arith) (rw (← c .before .before .is-live .ensures, ← c .before .both .ensures) (c .if2 .taken)))
+
+add-i : tie.Need-add-i Inv-loop μ-loop
+add-i c = omega arith
+
+loop-less : tie.Need-loop-less Inv-loop μ-loop
+loop-less c = omega arith
+
+loop-again : tie.Need-loop-again Inv-loop μ-loop
+loop-again c =
+    let l = c .before .before .before .before .before .before .loop in
+    passed-one (l .inv) (omega arith) (rw (← c .before .before .is-live .ensures, ← c .before .both .ensures) (c .if2 .left))
+
+returns-3 : tie.Need-returns-3 Inv-loop μ-loop
+returns-3 c = rw (← c .before .before .before .before .links-of .ensures) (any-nowhere (c .before .loop .inv) (c .loop-test .left))
+
+pub some-held-spec : {M : Type 1} → statement M
+some-held-spec =
+    tie.close
+    (tie.spec
+    Inv-loop
+    μ-loop
+    links-of-requires
+    skip-unheld-requires
+    sub-if1
+    returns
+    loop-holds
+    element-copy-out-both
+    element-copy-out-is-live
+    is-live-requires
+    both-requires
+    returns-2
+    add-i
+    loop-less
+    loop-again
+    returns-3)

@@ -1,0 +1,41 @@
+// Scans over the links' states, on arrays that are lent: searches, offers and counts. Of the links that are said to be there the first 256 count.
+ghost use mathlib.Core.Path.{_≡_};
+ghost use Prim.Native.Nat.{min};
+ghost use Rattle.flood.specs.Machine.{underWay};
+ghost use Rattle.flood.specs.Topology.{underWayOf, takenOf};
+
+pub mod count;
+pub mod offer;
+pub mod search;
+mod state;
+
+// How many of `count` links the arrays have room for.
+pub fn links_of(count: usize) -> usize
+    ensures { λ r. ⌜ r ≡ min count 256 ⌝ }
+{
+    if count < 256 { count } else { 256 }
+}
+
+// Whether a link in state v is under way: offered or refused.
+pub fn is_under_way(v: u8) -> bool
+    ensures { λ r. ⌜ r ≡ underWay v ⌝ }
+{
+    match v {
+        1 | 3 => true,
+        0 | 2 | 4 | 5..=255 => false,
+    }
+}
+
+// How many of the first `count` links are under way.
+pub fn under_way(count: u16, states: [u8; 256]) -> u16
+    ensures { λ r. ⌜ r ≡ underWayOf count states ⌝ }
+{
+    count::under_way(&states, count as usize)
+}
+
+// How many of the first `count` links are taken.
+pub fn taken(count: u16, states: [u8; 256]) -> u16
+    ensures { λ r. ⌜ r ≡ takenOf count states ⌝ }
+{
+    count::taken(&states, count as usize)
+}
