@@ -1,8 +1,11 @@
 -- `rows::flip_arc` meets its contract.
 use borrow.Author.Needs.{needs}
-use Rattle.planner.specs.Rows.{flip}
-use Rattle.planner.proofs.rows.flip_arc.Statement.{statement}
-use Rattle.planner.proofs.rows.flip_arc.Tie as tie
+use Rattle.rows.specs.Rows.{flip}
+use Rattle.rows.proofs.flip_arc.Statement.{statement}
+use Rattle.rows.proofs.flip_arc.Tie as tie
+
+cast-i : tie.Need-cast-i
+cast-i c = search needs
 
 mul-rows : tie.Need-mul-rows
 mul-rows c = search needs
@@ -10,8 +13,8 @@ mul-rows c = search needs
 element-copy-out-rows : tie.Need-element-copy-out-rows
 element-copy-out-rows c = search needs
 
-bit-requires : tie.Need-bit-requires
-bit-requires c κs = search needs
+digit-requires : tie.Need-digit-requires
+digit-requires c κs = search needs
 
 mul-rows-2 : tie.Need-mul-rows-2
 mul-rows-2 c = search needs
@@ -21,9 +24,9 @@ element-write-rows c = search needs
 
 returns : tie.Need-returns
 unfolding flip
-returns c = rw (c .bit .ensures)
+returns c = rw (c .digit .ensures)
 
 pub flip-arc-spec : {M : Type 1} → statement M
 flip-arc-spec =
     tie.close
-    (tie.spec mul-rows element-copy-out-rows bit-requires mul-rows-2 element-write-rows returns)
+    (tie.spec cast-i mul-rows element-copy-out-rows digit-requires mul-rows-2 element-write-rows returns)

@@ -1,8 +1,8 @@
 -- Arcs between 64 nodes as rows of binary digits: row u has the digit v where an arc leads from u to v. Definitions only.
 use Prim.Native.Nat.{ℕ, _^_}
 use mathlib.Core.Path.{_≡_}
-use mathlib.Core.Logic.{_↔_}
-use mathlib.Core.Bool.{Bool, true}
+use mathlib.Core.Logic.{_↔_, _⊎_}
+use mathlib.Core.Bool.{Bool, true, false}
 use mathlib.Core.List.{List}
 use lib.ListN.{getD, set}
 use lib.Bits.{bitOr, bitXor}
@@ -32,16 +32,29 @@ pub record Spread (rows : List ℕ) (u r : ℕ) : Type 0 where
   pub sound : (v : ℕ) → has r v ≡ true → Walk (Edge rows) u v
   pub closed : (v w : ℕ) → has r v ≡ true → Edge rows v w → has r w ≡ true
 
+-- a walk ahead from u and a walk back from v, which the second table has, come to a common node
+abbrev pub Meet : List ℕ → List ℕ → ℕ → ℕ → Type 0
+Meet leaving entering u v = (w : ℕ) × (Walk (Edge leaving) u w × Walk (Edge entering) v w)
+
+-- no walk ahead from u comes to v, or none back from v comes to u
+abbrev pub Apart : List ℕ → List ℕ → ℕ → ℕ → Type 0
+Apart leaving entering u v = ¬ Walk (Edge leaving) u v ⊎ ¬ Walk (Edge entering) v u
+
+-- what the search from both sides says, of any two tables; where the second has the arcs of the first it is whether a walk leads from u to v
+abbrev pub Searched : List ℕ → List ℕ → ℕ → ℕ → Bool → Type 0
+Searched leaving entering u v true = Meet leaving entering u v
+Searched leaving entering u v false = Apart leaving entering u v
+
 -- a link's two arcs taken out
 abbrev pub cut : List ℕ → ℕ → ℕ → List ℕ
 cut rows a b = flip (flip rows a b) b a
 
--- what a link gets, and the two tables after it: 0 where a walk leads back from its high end to its low end without it, else 1 where one leads from its
--- low end to its high end, else 2, no direction
+-- what a link gets, and the two tables after it: 0 where the search without it finds a walk back from its high end to its low end, else 1 where it finds one
+-- from its low end to its high end, else 2, no direction
 pub data Directed (leaving entering : List ℕ) (low high : ℕ) : ℕ → List ℕ → List ℕ → Type 0 where
-  up : Walk (Edge (cut leaving low high)) high low
+  up : Meet (cut leaving low high) (cut entering low high) high low
       → Directed leaving entering low high 0 (put (cut leaving low high) low high) (put (cut entering low high) high low)
-  down : ¬ Walk (Edge (cut leaving low high)) high low → Walk (Edge (cut leaving low high)) low high
+  down : Apart (cut leaving low high) (cut entering low high) high low → Meet (cut leaving low high) (cut entering low high) low high
       → Directed leaving entering low high 1 (put (cut leaving low high) high low) (put (cut entering low high) low high)
-  stuck : ¬ Walk (Edge (cut leaving low high)) high low → ¬ Walk (Edge (cut leaving low high)) low high
+  stuck : Apart (cut leaving low high) (cut entering low high) high low → Apart (cut leaving low high) (cut entering low high) low high
       → Directed leaving entering low high 2 (cut leaving low high) (cut entering low high)

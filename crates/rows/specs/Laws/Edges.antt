@@ -8,7 +8,7 @@ use lib.Bits.{bitOr, bitXor}
 use Rattle.scan.specs.Test.{Says}
 use Rattle.scan.specs.Entry.{moved, set-at}
 use Rattle.scan.specs.Bits.{has, has-power-says, has-or-says, has-xor-says}
-use Rattle.planner.specs.Rows.{edge, Edge, put, flip}
+use Rattle.rows.specs.Rows.{edge, Edge, put, flip}
 
 module _ (rows : List ℕ) (a b : ℕ) where
   pub length-put : length (put rows a b) ≡ length rows

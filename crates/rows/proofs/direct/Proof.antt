@@ -3,28 +3,22 @@ use Prim.Native.Nat.{ℕ}
 use mathlib.Core.Path.{_≡_}
 use mathlib.Core.Bool.{Bool, true, false}
 use mathlib.Core.List.{List}
-use native.Mathlib.Omega.{arith}
-use Rattle.scan.specs.Test.{Says, fails}
-use Rattle.graph.specs.Walk.{Walk}
-use Rattle.planner.specs.Rows.{Edge, Mirror, put, cut, Directed, up, down, stuck}
+use Rattle.rows.specs.Rows.{Searched, put, cut, Directed, up, down, stuck}
 use borrow.Author.Needs.{needs}
-use Rattle.planner.proofs.rows.direct.Statement.{statement}
-use Rattle.planner.proofs.rows.direct.Tie as tie
+use Rattle.rows.proofs.direct.Statement.{statement}
+use Rattle.rows.proofs.direct.Tie as tie
 
 module _ (leaving entering : List ℕ) (low high : ℕ) {t e : List ℕ} (p : t ≡ cut leaving low high) (q : e ≡ cut entering low high) where
-  mirror-is : Mirror (cut leaving low high) (cut entering low high) → Mirror t e
-  mirror-is M = rw (p, q) M
-
-  module _ {a : Bool} (A : Says a (Walk (Edge t) high low)) where
+  module _ {a : Bool} (A : Searched t e high low a) where
     directed-up : a ≡ true → {x y : List ℕ} → x ≡ put t low high → y ≡ put e high low → Directed leaving entering low high 0 x y
-    directed-up s f g = rw (f, g, p, q) (up (rw p at (A .0 s)))
+    directed-up s f g = rw (f, g, p, q) (up (rw (p, q, s) at A))
 
-    module _ (s : a ≡ false) {b : Bool} (B : Says b (Walk (Edge t) low high)) where
+    module _ (s : a ≡ false) {b : Bool} (B : Searched t e low high b) where
       directed-down : b ≡ true → {x y : List ℕ} → x ≡ put t high low → y ≡ put e low high → Directed leaving entering low high 1 x y
-      directed-down r f g = rw (f, g, p, q) (down (rw p at (fails A s)) (rw p at (B .0 r)))
+      directed-down r f g = rw (f, g, p, q) (down (rw (p, q, s) at A) (rw (p, q, r) at B))
 
       directed-not : b ≡ false → Directed leaving entering low high 2 t e
-      directed-not r = rw (p, q) (stuck (rw p at (fails A s)) (rw p at (fails B r)))
+      directed-not r = rw (p, q) (stuck (rw (p, q, s) at A) (rw (p, q, r) at B))
 
 cut-link-requires : tie.Need-cut-link-requires
 cut-link-requires c κs = search needs
@@ -33,10 +27,7 @@ cut-link-requires-2 : tie.Need-cut-link-requires-2
 cut-link-requires-2 c κs = search needs
 
 leads-requires : tie.Need-leads-requires
-leads-requires c κs =
-    let second = c .before .before in
-    let first = second .before .before in
-    (omega arith, omega arith, mirror-is _ _ _ _ (first .cut-link .ensures) (second .cut-link2 .ensures) (first .before .before .pre .2))
+leads-requires c κs = search needs
 
 put-arc-requires : tie.Need-put-arc-requires
 put-arc-requires c κs = search needs
@@ -52,7 +43,7 @@ returns c =
     (c .before .before .before .before .if1 .taken) (c .before .before .put-arc .ensures) (c .put-arc2 .ensures)
 
 leads-requires-2 : tie.Need-leads-requires-2
-leads-requires-2 c κs = (omega arith, omega arith, leads-requires (c .before .before .before .before) κs .2)
+leads-requires-2 c κs = search needs
 
 put-arc-requires-3 : tie.Need-put-arc-requires-3
 put-arc-requires-3 c κs = search needs

@@ -1,8 +1,8 @@
 -- `rows::cut_link` meets its contract.
 use mathlib.Core.Path.{_∙_}
 use borrow.Author.Needs.{needs}
-use Rattle.planner.proofs.rows.cut_link.Statement.{statement}
-use Rattle.planner.proofs.rows.cut_link.Tie as tie
+use Rattle.rows.proofs.cut_link.Statement.{statement}
+use Rattle.rows.proofs.cut_link.Tie as tie
 
 flip-arc-requires : tie.Need-flip-arc-requires
 flip-arc-requires c κs = search needs

@@ -3,8 +3,8 @@ use mathlib.Core.Path.{_∙_}
 use native.Mathlib.Omega.{arith}
 use lib.Pow.{shl-exact}
 use borrow.Author.Needs.{needs}
-use Rattle.planner.proofs.rows.bit.Statement.{statement}
-use Rattle.planner.proofs.rows.bit.Tie as tie
+use Rattle.rows.proofs.bit.Statement.{statement}
+use Rattle.rows.proofs.bit.Tie as tie
 
 shl-result : tie.Need-shl-result
 shl-result c = search needs

@@ -13,7 +13,7 @@ use lib.Count.{trailingZeros}
 use Rattle.scan.specs.Test.{clash, known, failing, Says}
 use Rattle.scan.specs.Bits.{has, has-none, has-power-says, has-or-says, has-xor-says, or-power, Digit, trailing-is}
 use Rattle.graph.specs.Walk.{Walk, one, join, stay, carry}
-use Rattle.planner.specs.Rows.{Edge, Spread}
+use Rattle.rows.specs.Rows.{Edge, Spread}
 
 pub record Spreading (rows : List ℕ) (u seen done : ℕ) : Type 0 where
   pub seen-fits : seen < 2 ^ 64

@@ -1,14 +1,13 @@
 // Arcs between 64 nodes as rows of binary digits, and the walks along them. A second table can have the same arcs by the node that they enter.
+// The number of a node counts modulo 64.
 ghost use mathlib.Core.Path.{_≡_};
-ghost use Prim.Native.Nat.{_<_, _^_};
+ghost use Prim.Native.Nat.{_%_, _<_, _^_};
 ghost use lib.ListN.{getD};
-ghost use Rattle.graph.specs.Walk.{Walk};
 ghost use Rattle.scan.specs.Bits.{has};
-ghost use Rattle.scan.specs.Test.{Says};
-ghost use Rattle.planner.specs.Rows.{Edge, Spread, Mirror, put, flip, cut, Directed};
+ghost use Rattle.rows.specs.Rows.{Spread, Searched, put, flip, cut, Directed};
 
 // What `direct` answers where the link can have no direction.
-pub(crate) const STUCK: u8 = 2;
+pub const STUCK: u8 = 2;
 
 fn bit(v: u32) -> u64
     requires { ⌜ v < 64 ⌝ }
@@ -17,11 +16,18 @@ fn bit(v: u32) -> u64
     1u64 << v
 }
 
-pub(crate) fn has_node(nodes: u64, v: u8) -> bool
-    requires { ⌜ v < 64 ⌝ }
-    ensures { λ r. ⌜ r ≡ has nodes v ⌝ }
+// A node's digit.
+fn digit(v: u8) -> u64
+    ensures { λ r. ⌜ r ≡ 2 ^ (v % 64) ⌝ }
 {
-    nodes & bit(v as u32) != 0
+    bit((v % 64) as u32)
+}
+
+// Whether v is one of the nodes.
+pub fn has_node(nodes: u64, v: u8) -> bool
+    ensures { λ r. ⌜ r ≡ has nodes (v % 64) ⌝ }
+{
+    nodes & digit(v) != 0
 }
 
 fn row(rows: &[u64; 64], v: u32) -> u64
@@ -32,11 +38,10 @@ fn row(rows: &[u64; 64], v: u32) -> u64
 }
 
 // The nodes that a walk from u comes to.
-pub(crate) fn spread(rows: &[u64; 64], u: u8) -> u64
-    requires { ⌜ u < 64 ⌝ }
-    ensures { λ r. ⌜ Spread (now (rows .entry)) u r ⌝ }
+pub fn spread(rows: &[u64; 64], u: u8) -> u64
+    ensures { λ r. ⌜ Spread (now (rows .entry)) (u % 64) r ⌝ }
 {
-    let mut seen = bit(u as u32);
+    let mut seen = digit(u);
     let mut done: u64 = 0;
     while seen ^ done != 0 {
         let v = u64::trailing_zeros(seen ^ done);
@@ -46,13 +51,13 @@ pub(crate) fn spread(rows: &[u64; 64], u: u8) -> u64
     seen
 }
 
-// Whether a walk leads from u to v. Searches ahead from u and back from v, a node of each by turns, until the two meet or one of them ends.
+// Whether a walk leads from u to v, where the second table has the arcs of the first. Searches ahead from u and back from v, a node of each by turns, until
+// the two meet or one of them ends.
 fn leads(leaving: &[u64; 64], entering: &[u64; 64], u: u8, v: u8) -> bool
-    requires { ⌜ (u < 64) × (v < 64) × Mirror (now leaving) (now entering) ⌝ }
-    ensures { λ r. ⌜ Says r (Walk (Edge (now (leaving .entry))) u v) ⌝ }
+    ensures { λ r. ⌜ Searched (now (leaving .entry)) (now (entering .entry)) (u % 64) (v % 64) r ⌝ }
 {
-    let mut ahead = bit(u as u32);
-    let mut back = bit(v as u32);
+    let mut ahead = digit(u);
+    let mut back = digit(v);
     let mut ahead_done: u64 = 0;
     let mut back_done: u64 = 0;
     while ahead & back == 0 {
@@ -72,34 +77,33 @@ fn leads(leaving: &[u64; 64], entering: &[u64; 64], u: u8, v: u8) -> bool
     true
 }
 
-pub(crate) fn put_arc(rows: &mut [u64; 64], a: u8, b: u8)
-    requires { ⌜ (a < 64) × (b < 64) ⌝ }
-    ensures { λ _. ⌜ now (rows .exit) ≡ put (now (rows .entry)) a b ⌝ }
+// Puts in the arc from a to b.
+pub fn put_arc(rows: &mut [u64; 64], a: u8, b: u8)
+    ensures { λ _. ⌜ now (rows .exit) ≡ put (now (rows .entry)) (a % 64) (b % 64) ⌝ }
 {
-    let i = a as usize;
-    rows[i] = rows[i] | bit(b as u32);
+    let i = (a % 64) as usize;
+    rows[i] = rows[i] | digit(b);
 }
 
+// Takes out the arc from a to b where it is in, else puts it in.
 fn flip_arc(rows: &mut [u64; 64], a: u8, b: u8)
-    requires { ⌜ (a < 64) × (b < 64) ⌝ }
-    ensures { λ _. ⌜ now (rows .exit) ≡ flip (now (rows .entry)) a b ⌝ }
+    ensures { λ _. ⌜ now (rows .exit) ≡ flip (now (rows .entry)) (a % 64) (b % 64) ⌝ }
 {
-    let i = a as usize;
-    rows[i] = rows[i] ^ bit(b as u32);
+    let i = (a % 64) as usize;
+    rows[i] = rows[i] ^ digit(b);
 }
 
+// Takes out a link's two arcs.
 fn cut_link(rows: &mut [u64; 64], low: u8, high: u8)
-    requires { ⌜ (low < 64) × (high < 64) ⌝ }
-    ensures { λ _. ⌜ now (rows .exit) ≡ cut (now (rows .entry)) low high ⌝ }
+    ensures { λ _. ⌜ now (rows .exit) ≡ cut (now (rows .entry)) (low % 64) (high % 64) ⌝ }
 {
     flip_arc(rows, low, high);
     flip_arc(rows, high, low);
 }
 
 // Leaves a link that is open both ways open one way: 0 from its low end where a way leads back, else 1 where one leads on, else not at all.
-pub(crate) fn direct(leaving: &mut [u64; 64], entering: &mut [u64; 64], low: u8, high: u8) -> u8
-    requires { ⌜ (low < 64) × (high < 64) × Mirror (cut (now leaving) low high) (cut (now entering) low high) ⌝ }
-    ensures { λ r. ⌜ Directed (now (leaving .entry)) (now (entering .entry)) low high r (now (leaving .exit)) (now (entering .exit)) ⌝ }
+pub fn direct(leaving: &mut [u64; 64], entering: &mut [u64; 64], low: u8, high: u8) -> u8
+    ensures { λ r. ⌜ Directed (now (leaving .entry)) (now (entering .entry)) (low % 64) (high % 64) r (now (leaving .exit)) (now (entering .exit)) ⌝ }
 {
     cut_link(leaving, low, high);
     cut_link(entering, low, high);
