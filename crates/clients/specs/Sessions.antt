@@ -5,8 +5,8 @@ use Rattle.mesh.specs.declared.Mesh.{Mesh}
 use Rattle.planner.specs.Plan.{planned}
 use Rattle.recovery.specs.declared.Session.{Session}
 use Rattle.recovery.specs.Calls.{started, routed}
-use Rattle.guarantees.specs.History.{Call, by-value, cut, run, reply, after}
-use Rattle.guarantees.specs.Demand.{startedOn}
+use Rattle.history.specs.History.{Call, by-value, cut, run, reply, after}
+use Rattle.history.specs.Demand.{startedOn}
 use Rattle.clients.specs.declared.Begun.{Begun}
 use Rattle.clients.specs.declared.Recovered.{Recovered}
 

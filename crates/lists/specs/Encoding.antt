@@ -4,7 +4,7 @@ use mathlib.Core.Bool.{cond}
 use mathlib.Core.List.{List, [], _∷_}
 use lib.Dec.{eqb}
 use lib.ListN.{length, getD}
-use Rattle.guarantees.specs.History.{Call, by-value, in-place, cut, deliver, run, mend, status}
+use Rattle.history.specs.History.{Call, by-value, in-place, cut, deliver, run, mend, status}
 
 -- the call that a letter and a number say. C, D and M are cut, delivery and mend by value, c, d and m the same in place, R is run, and every other
 -- letter is status. A run's allowance is the number, a link its low 16 bits

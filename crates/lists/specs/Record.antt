@@ -15,7 +15,7 @@ use Rattle.recovery.specs.declared.Report.{Report}
 use Rattle.recovery.specs.declared.Report.the-variants as report
 use Rattle.recovery.specs.declared.Status.{Status}
 use Rattle.recovery.specs.declared.Status.the-variants as statuses
-use Rattle.guarantees.specs.History.{Call, Reply, Answered, cut, deliver, run, mend, status, reply, next}
+use Rattle.history.specs.History.{Call, Reply, Answered, cut, deliver, run, mend, status, reply, next}
 use Rattle.lists.specs.declared.Numbers.{Numbers}
 use Rattle.lists.specs.declared.Made.{Made}
 

@@ -3,7 +3,7 @@ ghost use mathlib.Core.Path.{_≡_};
 ghost use Prim.Native.Nat.{_+_, _<_, _≤_, min};
 ghost use lib.ListN.{length, getD};
 ghost use lib.Seq.{sets};
-ghost use Rattle.guarantees.specs.History.{after, answers};
+ghost use Rattle.history.specs.History.{after, answers};
 ghost use Rattle.lists.specs.Encoding.{callsOf};
 ghost use Rattle.lists.specs.Record.{listOf, written};
 

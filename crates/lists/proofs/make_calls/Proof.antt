@@ -7,7 +7,7 @@ use lib.ListN.{length, getD}
 use lib.Seq.{length-sets}
 use borrow.Author.Needs.{needs}
 use mathlib.Core.List.{List}
-use Rattle.guarantees.specs.History.{Call, after}
+use Rattle.history.specs.History.{Call, after}
 use Rattle.lists.specs.Encoding.{callOf, callsFrom, callsOf}
 use Rattle.lists.specs.Record.{madeOf, listOf}
 use Rattle.lists.specs.Laws.Lists.{left, stored, session-next, output-next, session-last, output-last, length-calls, stored-front}

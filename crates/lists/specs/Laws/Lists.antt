@@ -8,7 +8,7 @@ use lib.ListN.{length, getD, drop, length-append}
 use lib.Seq.{sets}
 use Rattle.scan.specs.Store.{sets-front}
 use Rattle.recovery.specs.declared.Session.{Session}
-use Rattle.guarantees.specs.History.{Call, Answered, reply, next, after, answers}
+use Rattle.history.specs.History.{Call, Answered, reply, next, after, answers}
 use Rattle.lists.specs.declared.Made.{Made}
 use Rattle.lists.specs.Encoding.{callOf, callsFrom}
 use Rattle.lists.specs.Record.{madeOf, listOf, recordOf, written}

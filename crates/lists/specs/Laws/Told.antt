@@ -11,7 +11,7 @@ use Rattle.recovery.specs.declared.Report.{Report}
 use Rattle.recovery.specs.declared.Report.the-variants as report
 use Rattle.recovery.specs.declared.Status.{Status}
 use Rattle.recovery.specs.declared.Status.the-variants as statuses
-use Rattle.guarantees.specs.History.{Call, Reply, cut, deliver, run, mend, status}
+use Rattle.history.specs.History.{Call, Reply, cut, deliver, run, mend, status}
 use Rattle.lists.specs.declared.Numbers.{Numbers}
 use Rattle.lists.specs.Record.{changeNumbers, deliveredNumbers, reportNumbers, statusNumbers, replyNumbers}
 

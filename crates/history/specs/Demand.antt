@@ -16,8 +16,8 @@ use Rattle.recovery.specs.declared.Cut.the-variants.{Link}
 use Rattle.recovery.specs.declared.Session.{Session}
 use Rattle.recovery.specs.Formed.{recordAnswer}
 use Rattle.recovery.specs.Calls.{backup, digraph, started, afterDelivery}
-use Rattle.guarantees.specs.History.{Call, Log, reply, next, after, answers, accepted, emptyLog, logged}
-use Rattle.guarantees.specs.Rules.{Now, start, ruleNext, ruleReply, ruled}
+use Rattle.history.specs.History.{Call, Log, reply, next, after, answers, accepted, emptyLog, logged}
+use Rattle.history.specs.Rules.{Now, start, ruleNext, ruleReply, ruled}
 
 module _ (s : Session) where
   -- link i is under way; none is; link i is taken

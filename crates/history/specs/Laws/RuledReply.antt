@@ -12,11 +12,11 @@ use Rattle.recovery.specs.declared.Report.the-variants as report
 use Rattle.recovery.specs.Formed.{recordAnswer}
 use Rattle.recovery.specs.Calls.{digraph, failure, change, deliveryAs, runAs, statusAs, routeLength}
 use Rattle.recovery.specs.Calls.{deliverAnswer, runAnswer, statusAnswer, afterCut, afterDelivery, afterRun, afterMend, statusOf}
-use Rattle.guarantees.specs.History.{Call, cut, deliver, run, mend, status, reply}
-use Rattle.guarantees.specs.Rules.{Now, effect, changedBy, ruleNext, deliverReply, runMade, runReply, statusReply, ruleReply}
-use Rattle.guarantees.specs.Demand.{Sized, seen}
-use Rattle.guarantees.specs.Laws.RuledTests.{shown, rest-is}
-use Rattle.guarantees.specs.Laws.RuledCalls.{stands-is, refusal-is, made-seen, run-made}
+use Rattle.history.specs.History.{Call, cut, deliver, run, mend, status, reply}
+use Rattle.history.specs.Rules.{Now, effect, changedBy, ruleNext, deliverReply, runMade, runReply, statusReply, ruleReply}
+use Rattle.history.specs.Demand.{Sized, seen}
+use Rattle.history.specs.Laws.RuledTests.{shown, rest-is}
+use Rattle.history.specs.Laws.RuledCalls.{stands-is, refusal-is, made-seen, run-made}
 
 module _ (s : Session) where
   abbrev g : Digraph

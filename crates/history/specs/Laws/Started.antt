@@ -23,11 +23,11 @@ use Rattle.recovery.specs.declared.Session.{Session}
 use Rattle.recovery.specs.Formed.{recordAnswer}
 use Rattle.recovery.specs.WellFormed.{PlanFormed}
 use Rattle.recovery.specs.Calls.{backup, freshOn, started}
-use Rattle.guarantees.specs.History.{Call, Log, emptyLog}
-use Rattle.guarantees.specs.Demand.{digraphOn, ended, log}
+use Rattle.history.specs.History.{Call, Log, emptyLog}
+use Rattle.history.specs.Demand.{digraphOn, ended, log}
 use Rattle.recovery.specs.Laws.Forming.{cut-says, start-accepts, record-accepts}
-use Rattle.guarantees.specs.Laws.Backup.{plan-most, plan-past, plan-strong}
-use Rattle.guarantees.specs.Laws.Kept.{cutSession, Kept, free, under, calls-kept}
+use Rattle.history.specs.Laws.Backup.{plan-most, plan-past, plan-strong}
+use Rattle.history.specs.Laws.Kept.{cutSession, Kept, free, under, calls-kept}
 
 module _ (m : Mesh) (accepted : planned m .answer ≡ Accepted) where
   abbrev p : Plan

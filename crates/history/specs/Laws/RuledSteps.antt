@@ -17,8 +17,8 @@ use Rattle.flood.specs.Machine.{offer, leaves, opens, holds, feeds, first, some
 use Rattle.flood.specs.Laws.Tests.{at-offer, length-offer, leaves-says, opens-says, first-passes, accepts-says}
 use Rattle.recovery.specs.declared.Cut.{Cut}
 use Rattle.recovery.specs.declared.Cut.the-variants.{Link}
-use Rattle.guarantees.specs.Rules.{Now, put, cutRule, quietFrom, heldAt, takenInto, offeredRule, refusedRule, deliverRule}
-use Rattle.guarantees.specs.Laws.RuledTests.{shown, opens-is, some-opens, some-holds, some-feeds, first-feeds}
+use Rattle.history.specs.Rules.{Now, put, cutRule, quietFrom, heldAt, takenInto, offeredRule, refusedRule, deliverRule}
+use Rattle.history.specs.Laws.RuledTests.{shown, opens-is, some-opens, some-holds, some-feeds, first-feeds}
 
 -- where h leads from each branch to that of another choice by the same test, it leads from choice to choice
 cond-map : {A B : Type 0} (h : A → B) (t : Bool) {a a′ : A} {b b′ : B} → (t ≡ true → h a ≡ b) → (t ≡ false → h a′ ≡ b′) → h (cond t a a′) ≡ cond t b b′

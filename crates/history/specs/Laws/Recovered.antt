@@ -23,15 +23,15 @@ use Rattle.recovery.specs.declared.Change.{Change}
 use Rattle.recovery.specs.declared.Session.{Session}
 use Rattle.recovery.specs.Formed.{recordAnswer}
 use Rattle.recovery.specs.Calls.{backup, digraph, failure, standing, freshOn, deliveryAs, deliverAnswer, afterDelivery, routeOf}
-use Rattle.guarantees.specs.History.{Call, reply, after, accepted}
-use Rattle.guarantees.specs.Rules.{start, ruled, ruleReply}
-use Rattle.guarantees.specs.Demand.{UnderWay, Recovers, Follows, startedOn, digraphOn, Demand3}
+use Rattle.history.specs.History.{Call, reply, after, accepted}
+use Rattle.history.specs.Rules.{start, ruled, ruleReply}
+use Rattle.history.specs.Demand.{UnderWay, Recovers, Follows, startedOn, digraphOn, Demand3}
 use Rattle.recovery.specs.Laws.Tested.{deliver-accepts, deliver-accepted}
-use Rattle.guarantees.specs.Laws.Kept.{cutSession, under, acted-accepted, kept-holds, kept-cut}
-use Rattle.guarantees.specs.Laws.Started.{started-fresh, kept-record, strong, ended-kept}
-use Rattle.guarantees.specs.Laws.Routed.{rest-path}
-use Rattle.guarantees.specs.Laws.RuledNext.{fresh-sized}
-use Rattle.guarantees.specs.Laws.Ruled.{Passing, fresh-follows, list-follows, list-answers}
+use Rattle.history.specs.Laws.Kept.{cutSession, under, acted-accepted, kept-holds, kept-cut}
+use Rattle.history.specs.Laws.Started.{started-fresh, kept-record, strong, ended-kept}
+use Rattle.history.specs.Laws.Routed.{rest-path}
+use Rattle.history.specs.Laws.RuledNext.{fresh-sized}
+use Rattle.history.specs.Laws.Ruled.{Passing, fresh-follows, list-follows, list-answers}
 
 -- a further delivery is accepted just where its link is under way
 further : (s : Session) → recordAnswer s ≡ Accepted → standing (s .cut) ≡ true → (i : ℕ) → (accepted (afterDelivery s i .answer) ≡ true) ↔ UnderWay s i

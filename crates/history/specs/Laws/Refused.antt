@@ -13,8 +13,8 @@ use Rattle.recovery.specs.declared.Session.{Session}
 use Rattle.recovery.specs.Formed.{recordAnswer}
 use Rattle.recovery.specs.Calls.{digraph, cutAnswer, deliverAnswer, runAnswer, mendAnswer, statusAnswer, change, deliveryAs, runAs}
 use Rattle.recovery.specs.Calls.{afterCut, afterDelivery, afterRun, afterMend, statusOf}
-use Rattle.guarantees.specs.History.{Call, cut, deliver, run, mend, status, reply, next, accepted, isRefusal, refused, refusedAt}
-use Rattle.guarantees.specs.Laws.Kept.{acted-accepted}
+use Rattle.history.specs.History.{Call, cut, deliver, run, mend, status, reply, next, accepted, isRefusal, refused, refusedAt}
+use Rattle.history.specs.Laws.Kept.{acted-accepted}
 
 change-keeps : (a : Answer) (s t : Session) → isRefusal (change a s t .answer) ≡ true → change a s t .session ≡ s
 change-keeps Accepted s t e = clash e refl

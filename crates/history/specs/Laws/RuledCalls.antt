@@ -22,13 +22,13 @@ use Rattle.recovery.specs.declared.Session.{Session}
 use Rattle.recovery.specs.Formed.{startAnswer, recordAnswer}
 use Rattle.recovery.specs.Calls.{digraph, failureOf, failure, standing, isCut, withFlood, freshOn, cutOn}
 use Rattle.recovery.specs.Calls.{cutAnswer, deliverAnswer, runAnswer, mendAnswer, statusAnswer}
-use Rattle.guarantees.specs.History.{Form, Call, cut, deliver, run, mend, status}
-use Rattle.guarantees.specs.Rules.{start, stands, names, refusal, effect, runMade}
-use Rattle.guarantees.specs.Demand.{Sized, seen}
+use Rattle.history.specs.History.{Form, Call, cut, deliver, run, mend, status}
+use Rattle.history.specs.Rules.{start, stands, names, refusal, effect, runMade}
+use Rattle.history.specs.Demand.{Sized, seen}
 use Rattle.recovery.specs.Laws.Tested.{cut-accepted, deliver-accepted, run-accepted}
-use Rattle.guarantees.specs.Laws.RuledTests.{shown, rest-is}
-use Rattle.guarantees.specs.Laws.RuledSteps.{begin-ruled, step-ruled}
-use Rattle.guarantees.specs.Laws.RuledRun.{run-ruled}
+use Rattle.history.specs.Laws.RuledTests.{shown, rest-is}
+use Rattle.history.specs.Laws.RuledSteps.{begin-ruled, step-ruled}
+use Rattle.history.specs.Laws.RuledRun.{run-ruled}
 
 -- what a call answers to its tests, and the session that it makes where they pass
 abbrev pub answerOf : Call → Session → Answer

@@ -18,7 +18,7 @@ use Rattle.recovery.specs.declared.Report.{Report}
 use Rattle.recovery.specs.declared.Report.the-variants as report
 use Rattle.recovery.specs.declared.Status.{Status}
 use Rattle.recovery.specs.declared.Status.the-variants as statuses
-use Rattle.guarantees.specs.History.{Call, Reply, cut, deliver, run, mend, status}
+use Rattle.history.specs.History.{Call, Reply, cut, deliver, run, mend, status}
 
 -- the cut link or none, the state of each link (0 quiet, 1 offered, 2 taken, 3 refused, 4 released), and which nodes are reached
 pub record Now : Type 0 where

@@ -22,10 +22,10 @@ use Rattle.planner.specs.Plan.{planned}
 use Rattle.recovery.specs.declared.Cut.the-variants.{Link}
 use Rattle.recovery.specs.declared.Session.{Session}
 use Rattle.recovery.specs.Calls.{backup, digraph, resting, routeOf}
-use Rattle.guarantees.specs.History.{Call}
-use Rattle.guarantees.specs.Demand.{AtRest, OnePath, ended, log}
-use Rattle.guarantees.specs.Laws.Kept.{cutSession, kept-cut}
-use Rattle.guarantees.specs.Laws.Started.{strong, ended-kept}
+use Rattle.history.specs.History.{Call}
+use Rattle.history.specs.Demand.{AtRest, OnePath, ended, log}
+use Rattle.history.specs.Laws.Kept.{cutSession, kept-cut}
+use Rattle.history.specs.Laws.Started.{strong, ended-kept}
 
 module _ (m : Mesh) (p : Plan) (joined : Strong (backup m p)) (k n : ℕ) (f : Flood) (b : k < m .count) where
   abbrev g : Digraph

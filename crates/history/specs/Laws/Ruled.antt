@@ -9,12 +9,12 @@ use Rattle.flood.specs.Digraph.{Digraph}
 use Rattle.recovery.specs.declared.Session.{Session}
 use Rattle.recovery.specs.Formed.{recordAnswer}
 use Rattle.recovery.specs.Calls.{backup, digraph, freshOn}
-use Rattle.guarantees.specs.History.{Call, reply, next, after}
-use Rattle.guarantees.specs.Rules.{Now, start, ruleNext, ruleReply, ruled}
-use Rattle.guarantees.specs.Demand.{Follows, Sized, seen, CallFollows}
-use Rattle.guarantees.specs.Laws.RuledCalls.{fresh-seen}
-use Rattle.guarantees.specs.Laws.RuledNext.{next-mesh-plan, next-sized, next-seen}
-use Rattle.guarantees.specs.Laws.RuledReply.{reply-seen}
+use Rattle.history.specs.History.{Call, reply, next, after}
+use Rattle.history.specs.Rules.{Now, start, ruleNext, ruleReply, ruled}
+use Rattle.history.specs.Demand.{Follows, Sized, seen, CallFollows}
+use Rattle.history.specs.Laws.RuledCalls.{fresh-seen}
+use Rattle.history.specs.Laws.RuledNext.{next-mesh-plan, next-sized, next-seen}
+use Rattle.history.specs.Laws.RuledReply.{reply-seen}
 
 -- ---- to follow is to be seen so
 

@@ -28,7 +28,7 @@ use Rattle.recovery.specs.declared.Delivered.{Delivered}
 use Rattle.recovery.specs.declared.Session.{Session}
 use Rattle.recovery.specs.Calls.{backup, digraph, failure, standing, withFlood, freshOn, cutOn, cutAnswer, deliverAnswer, runAnswer, mendAnswer}
 use Rattle.recovery.specs.Calls.{change, acted, deliveryAs, runAs, afterCut, afterDelivery, afterRun, afterMend}
-use Rattle.guarantees.specs.History.{Call, Log, cut, deliver, run, mend, status, reply, next, after, answers, accepted, emptyLog, note, logged}
+use Rattle.history.specs.History.{Call, Log, cut, deliver, run, mend, status, reply, next, after, answers, accepted, emptyLog, note, logged}
 use Rattle.recovery.specs.Laws.Tested.{cut-accepted, deliver-accepted, run-accepted}
 
 -- whatever an accepted delivery answers, it is accepted

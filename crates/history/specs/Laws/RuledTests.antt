@@ -12,7 +12,7 @@ use Rattle.flood.specs.declared.Flood.{Flood}
 use Rattle.flood.specs.Digraph.{Digraph, cut}
 use Rattle.flood.specs.Machine.{underWay, live, holds, feeds, leaves, opens, first, some, atRest}
 use Rattle.recovery.specs.declared.Cut.{Cut}
-use Rattle.guarantees.specs.Rules.{Now, moving, quietFrom, heldAt, takenInto, rest}
+use Rattle.history.specs.Rules.{Now, moving, quietFrom, heldAt, takenInto, rest}
 
 -- what the rules see of a flood under the cut x
 abbrev pub shown : Cut → Flood → Now

@@ -11,9 +11,9 @@ use Rattle.flood.specs.Machine.{atRest, step, play, accepted, order, Ran, run, 
 use Rattle.flood.specs.Laws.Frame.{frame-room, step-frame}
 use Rattle.flood.specs.Laws.Run.{next, next-accepted, run-stop, run-step}
 use Rattle.recovery.specs.declared.Cut.{Cut}
-use Rattle.guarantees.specs.Rules.{Now, moving, deliverRule, rest, runRule, runCount}
-use Rattle.guarantees.specs.Laws.RuledTests.{shown, first-under-way, rest-is}
-use Rattle.guarantees.specs.Laws.RuledSteps.{step-ruled}
+use Rattle.history.specs.Rules.{Now, moving, deliverRule, rest, runRule, runCount}
+use Rattle.history.specs.Laws.RuledTests.{shown, first-under-way, rest-is}
+use Rattle.history.specs.Laws.RuledSteps.{step-ruled}
 
 module _ (g : Digraph) (k n : ℕ) (now : Now) where
   -- at rest the rules stop, else they make one delivery more

@@ -17,10 +17,10 @@ use Rattle.flood.specs.Laws.Frame.{Frame, begin-frame, step-frame, play-frame}
 use Rattle.recovery.specs.declared.Session.{Session}
 use Rattle.recovery.specs.Formed.{recordAnswer}
 use Rattle.recovery.specs.Calls.{digraph, failure, freshOn, withFlood, change, deliveryAs, runAs, afterCut, afterDelivery, afterRun, afterMend}
-use Rattle.guarantees.specs.History.{Call, cut, deliver, run, mend, status, next}
-use Rattle.guarantees.specs.Rules.{Now, effect, changedBy, ruleNext}
-use Rattle.guarantees.specs.Demand.{Sized, seen}
-use Rattle.guarantees.specs.Laws.RuledCalls.{answerOf, made, refusal-is, made-seen}
+use Rattle.history.specs.History.{Call, cut, deliver, run, mend, status, next}
+use Rattle.history.specs.Rules.{Now, effect, changedBy, ruleNext}
+use Rattle.history.specs.Demand.{Sized, seen}
+use Rattle.history.specs.Laws.RuledCalls.{answerOf, made, refusal-is, made-seen}
 
 -- every call, as a cut or a mend, hands the session back where it refuses
 next-is : (c : Call) (s : Session) → next c s ≡ change (answerOf c s) s (made c s) .session
