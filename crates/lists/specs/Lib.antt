@@ -1,3 +1,2 @@
-pub mod Encoding
-pub mod Record
+pub mod Lists
 pub mod Laws

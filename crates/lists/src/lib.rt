@@ -4,29 +4,10 @@ ghost use Prim.Native.Nat.{_+_, _<_, _≤_, min};
 ghost use lib.ListN.{length, getD};
 ghost use lib.Seq.{sets};
 ghost use Rattle.history.specs.History.{after, answers};
-ghost use Rattle.lists.specs.Encoding.{callsOf};
-ghost use Rattle.lists.specs.Record.{listOf, written};
-
-mod answer;
-mod call;
-mod lend;
-
-use call::make_call;
+ghost use Rattle.lists.specs.Lists.{callsOf, listOf, written};
+use calls::Numbers;
+use calls::make_call;
 use recovery::Session;
-
-// An answer as four numbers: which case it is, and its values.
-pub(crate) struct Numbers {
-    pub(crate) case: u64,
-    pub(crate) first: u64,
-    pub(crate) second: u64,
-    pub(crate) third: u64,
-}
-
-// A call made: the session that it returns or leaves, and its answer.
-pub(crate) struct Made {
-    pub(crate) session: Session,
-    pub(crate) answer: Numbers,
-}
 
 fn lower(a: usize, b: usize) -> usize
     ensures value { λ r. ⌜ r ≡ min a b ⌝ }

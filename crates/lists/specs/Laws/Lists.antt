@@ -9,9 +9,10 @@ use lib.Seq.{sets}
 use Rattle.scan.specs.Store.{sets-front}
 use Rattle.recovery.specs.declared.Session.{Session}
 use Rattle.history.specs.History.{Call, Answered, reply, next, after, answers}
-use Rattle.lists.specs.declared.Made.{Made}
-use Rattle.lists.specs.Encoding.{callOf, callsFrom}
-use Rattle.lists.specs.Record.{madeOf, listOf, recordOf, written}
+use Rattle.calls.specs.declared.Made.{Made}
+use Rattle.calls.specs.Encoding.{callOf}
+use Rattle.calls.specs.Record.{madeOf}
+use Rattle.lists.specs.Lists.{callsFrom, listOf, recordOf, written}
 
 -- the calls from index i on and below n
 abbrev pub left : List ℕ → List ℕ → ℕ → ℕ → List Call
