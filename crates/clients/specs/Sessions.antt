@@ -1,6 +1,6 @@
 -- Where the lists of demand 3 begin, and what one cut leads to. Definitions only.
 use Prim.Native.Nat.{ℕ}
-use mathlib.Core.List.{List, [], _∷_}
+use mathlib.Core.List.{[], _∷_}
 use Rattle.mesh.specs.declared.Mesh.{Mesh}
 use Rattle.planner.specs.Plan.{planned}
 use Rattle.recovery.specs.declared.Session.{Session}

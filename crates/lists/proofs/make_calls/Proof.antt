@@ -1,6 +1,6 @@
 -- `lists::make_calls` meets its contract. The loop's invariant: to make the calls that are left, and to store their answers behind those that are
 -- stored, gives what all calls give. The measure is the number of calls that are left.
-use Prim.Native.Nat.{ℕ, _*_, _-_, _/_, _≤_, min}
+use Prim.Native.Nat.{ℕ, _*_, _-_, _/_, _≤_}
 use mathlib.Core.Path.{_≡_, refl, sym, _∙_, ap}
 use native.Mathlib.Omega.{arith}
 use lib.ListN.{length, getD}

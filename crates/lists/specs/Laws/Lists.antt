@@ -1,14 +1,14 @@
 -- The calls of a list that are left to make: one is made, and the rest are left; none is left, and all are made. Assumes nothing.
-use Prim.Native.Nat.{ℕ, zero, suc, _+_, _*_, _-_, _/_, _<_, _≤_, min}
-use mathlib.Core.Path.{_≡_, refl, sym, _∙_, ap, subst}
-use mathlib.Core.List.{List, [], _∷_, _++_}
+use Prim.Native.Nat.{ℕ, zero, suc, _+_, _*_, _-_, _<_, _≤_}
+use mathlib.Core.Path.{_≡_, refl, ap}
+use mathlib.Core.List.{List, [], _∷_}
 use native.Mathlib.Omega.{arith}
 use native.Mathlib.Numerals.{add-one}
-use lib.ListN.{length, getD, drop, length-append}
+use lib.ListN.{length, getD, length-append}
 use lib.Seq.{sets}
 use Rattle.scan.specs.Store.{sets-front}
 use Rattle.recovery.specs.declared.Session.{Session}
-use Rattle.history.specs.History.{Call, Answered, reply, next, after, answers}
+use Rattle.history.specs.History.{Call, next, after, answers}
 use Rattle.calls.specs.declared.Made.{Made}
 use Rattle.calls.specs.Encoding.{callOf}
 use Rattle.calls.specs.Record.{madeOf}
