@@ -1,12 +1,12 @@
 -- Where the lists of demand 3 begin, and what one cut leads to. Definitions only.
 use Prim.Native.Nat.{ℕ}
-use mathlib.Core.List.{List, [], _∷_}
+use mathlib.Core.List.{[], _∷_}
 use Rattle.mesh.specs.declared.Mesh.{Mesh}
 use Rattle.planner.specs.Plan.{planned}
 use Rattle.recovery.specs.declared.Session.{Session}
 use Rattle.recovery.specs.Calls.{started, routed}
-use Rattle.guarantees.specs.History.{Call, by-value, cut, run, reply, after}
-use Rattle.guarantees.specs.Demand.{startedOn}
+use Rattle.history.specs.History.{Call, by-value, cut, run, reply, after}
+use Rattle.history.specs.Demand.{startedOn}
 use Rattle.clients.specs.declared.Begun.{Begun}
 use Rattle.clients.specs.declared.Recovered.{Recovered}
 

@@ -1,10 +1,6 @@
 // Proved clients of the library: functions that make its calls and whose contracts are the theorem page's own words. A call whose contract said less
 // than its definition would break the proof of its client here.
-mod answer;
 pub mod book;
-mod call;
-mod lend;
-pub mod list;
 pub mod session;
 
 use codec::Decoded;
@@ -14,20 +10,6 @@ use mesh::Plan;
 use recovery::Report;
 use recovery::Routed;
 use recovery::Session;
-
-// An answer as four numbers: which case it is, and its values.
-pub(crate) struct Numbers {
-    pub(crate) case: u64,
-    pub(crate) first: u64,
-    pub(crate) second: u64,
-    pub(crate) third: u64,
-}
-
-// A call made: the session that it returns or leaves, and its answer.
-pub(crate) struct Made {
-    pub(crate) session: Session,
-    pub(crate) answer: Numbers,
-}
 
 // What planning and starting on a mesh give.
 pub struct Begun {

@@ -1,7 +1,7 @@
 // Where the lists of demand 3 begin, and what one cut leads to.
 ghost use mathlib.Core.Path.{_≡_};
 ghost use Rattle.recovery.specs.Calls.{started, routed};
-ghost use Rattle.guarantees.specs.Demand.{Sized};
+ghost use Rattle.history.specs.Demand.{Sized};
 ghost use Rattle.clients.specs.Sessions.{begun, recovered};
 use crate::Begun;
 use crate::Recovered;

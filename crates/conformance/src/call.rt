@@ -1,4 +1,4 @@
-// The lines of calls, from the numbers of their answers (crates/clients/specs/Record.antt).
+// The lines of calls, from the numbers of their answers (crates/calls/specs/Record.antt).
 use crate::print::end;
 use crate::print::field;
 use crate::print::form;

@@ -1,4 +1,4 @@
-// The calls of a script, made as lists by `clients::list::make_calls`. A route query, which is no call of such a list, ends one.
+// The calls of a script, made as lists by `lists::make_calls`. A route query, which is no call of such a list, ends one.
 use crate::call::Reply;
 use crate::call::lent_letter;
 use crate::call::show_call;
@@ -9,8 +9,8 @@ use crate::print::form;
 use crate::print::word;
 use crate::session::show_route;
 use crate::session::store;
-use clients::list::make_calls;
 use clients::session::route;
+use lists::make_calls;
 use recovery::Session;
 
 // The most calls of one list, and the numbers of their answers.

@@ -19,8 +19,8 @@ use Rattle.recovery.specs.declared.Delivered.the-variants.{Taken, TurnedBack, R
 use Rattle.recovery.specs.declared.Report.the-variants.{Made}
 use Rattle.recovery.specs.declared.Routed.{Routed}
 use Rattle.recovery.specs.Calls.{digraph, failure, afterDelivery, routedAs, routed}
-use Rattle.guarantees.specs.History.{Call, Answered, by-value, cut, deliver, run, mend, status, next, after, answers, accepted}
-use Rattle.guarantees.specs.Demand.{startedOn}
+use Rattle.history.specs.History.{Call, Answered, by-value, cut, deliver, run, mend, status, next, after, answers, accepted}
+use Rattle.history.specs.Demand.{startedOn}
 
 -- a link with these ends, not measured and with no fibre pair
 abbrev pub ends : ℕ → ℕ → Link

@@ -1,16 +1,2 @@
-pub mod Backup
 pub mod Computed
-pub mod Kept
-pub mod Recovered
-pub mod Refused
-pub mod Routed
-pub mod Ruled
-pub mod RuledCalls
-pub mod RuledNext
-pub mod RuledReply
-pub mod RuledRun
-pub mod RuledSteps
-pub mod RuledTests
 pub mod Same
-pub mod Started
-pub mod Wording

@@ -34,12 +34,12 @@ use Rattle.recovery.specs.WellFormed.{PlanFormed, Formed}
 use Rattle.recovery.specs.WellFormed as formed
 use Rattle.recovery.specs.Laws.Forming.{start-formed, refused-start, record-formed, refused-record}
 use Rattle.recovery.specs.Calls.{digraph, routeOf}
-use Rattle.guarantees.specs.History.{Call, reply, next, refused, refusedAt}
-use Rattle.guarantees.specs.Demand.{Sized, CallFollows, Demand3, AtRest, OnePath, ended, log}
-use Rattle.guarantees.specs.Laws.Refused.{refused-keeps, record-refusal-answers}
-use Rattle.guarantees.specs.Laws.Ruled.{call-as-ruled}
-use Rattle.guarantees.specs.Laws.Recovered.{demand-3}
-use Rattle.guarantees.specs.Laws.Routed.{demand-route}
+use Rattle.history.specs.History.{Call, reply, next, refused, refusedAt}
+use Rattle.history.specs.Demand.{Sized, CallFollows, Demand3, AtRest, OnePath, ended, log}
+use Rattle.history.specs.Laws.Refused.{refused-keeps, record-refusal-answers}
+use Rattle.history.specs.Laws.Ruled.{call-as-ruled}
+use Rattle.history.specs.Laws.Recovered.{demand-3}
+use Rattle.history.specs.Laws.Routed.{demand-route}
 use Rattle.guarantees.specs.Bench.{Row, table, Holds}
 use Rattle.guarantees.specs.Laws.Computed.{row-holds}
 
@@ -150,7 +150,7 @@ pub call-follows : (s : Session) → Sized s → recordAnswer s ≡ Accepted →
 call-follows = call-as-ruled
 
 -- ---- demand 3, over every list of calls (contracts: crates/recovery/src/lib.rt, the calls of `Session`, and crates/recovery/src/in_place.rt, those
--- of them on a session that the host lends; crates/clients/src/list.rt, the function by which programs make such a list)
+-- of them on a session that the host lends; crates/lists/src/lib.rt, `make_calls`, by which programs make such a list)
 
 -- after any list of calls, by value and in place in any mix and refused ones included, from the session that a start on a planned mesh and its plan gives: at most 2 × (L - 1) deliveries
 -- since the cut that stands, accepted exactly where a link is under way, at rest one simple path from x to y; the session and every answer are those

@@ -1,21 +1,34 @@
--- What owning a mesh tells of its fields: they are in the ranges of their types. Serves the proof of `check`. Assumes nothing.
+-- What owning a mesh tells of its fields: they are in the ranges of their types, and there are 256 entries. Assumes nothing.
 use Prim.Native.Nat.{ℕ, zero, suc}
+use mathlib.Core.Path.{_≡_}
 use mathlib.Core.List.{List, [], _∷_, map}
-use lib.Dec.{lit<}
 use lib.ListN.{length, getD}
 use mir.Val.{Val}
+use denote.Laws.{Is}
 use denote.Shadow.{shadow}
 use denote.Array.{each}
+use Rattle.scan.specs.Part.{length-mapped}
 use Rattle.mesh.specs.declared.Link.{Link}
+use Rattle.mesh.specs.declared.Mesh.{Mesh}
 use Rattle.mesh.specs.Mesh.{zeroLink}
-use Rattle.mesh.specs.WellFormed.{LinkInRange}
-use Rattle.mesh.proofs.Link.{the-field}
+use Rattle.mesh.specs.WellFormed.{LinkInRange, InRange}
+use Rattle.mesh.specs.Laws.Zeros.{zero-in-range}
+use Rattle.mesh.proofs.Link as linkType
+use Rattle.mesh.proofs.Mesh as meshType
 
-pub each-in-range : (ls : List Link) (us : List Val)
-    → shadow (each (the-field .row .Denot) (the-field .row .own) (map (λ (d : Link). (d .low, (d .high, (d .length, (d .pair, record {}))))) ls) us)
+each-in-range : (ls : List Link) (us : List Val)
+    → shadow (each (linkType.the-field .row .Denot) (linkType.the-field .row .own) (map (linkType.struct .as-values) ls) us)
     → (i : ℕ) → LinkInRange (getD ls i zeroLink)
-each-in-range [] us q i = record { low = lit< tt; high = lit< tt; length = lit< tt; pair = lit< tt }
+each-in-range [] us q i = zero-in-range
 each-in-range (l ∷ ls) [] q i = absurd q
 each-in-range (l ∷ ls) (u ∷ us) q zero =
-    record { low = q .0 .1 .1 .0 .1; high = q .0 .1 .1 .1 .0 .1; length = q .0 .1 .1 .1 .1 .0 .1; pair = q .0 .1 .1 .1 .1 .1 .0 .1 }
+    let f = q .0 .1 .1 in
+    record { low = f .0 .1; high = f .1 .0 .1; length = f .1 .1 .0 .1; pair = f .1 .1 .1 .0 .1 }
 each-in-range (l ∷ ls) (u ∷ us) q (suc i) = each-in-range ls us (q .1) i
+
+module _ (m : Mesh) (vs : List Val) (owned : Is meshType.the-row m vs) where
+  pub entries-are : length (m .links) ≡ 256
+  entries-are = length-mapped _ (m .links) 256 (owned .1 .1 .1 .1 .0 .1 .0 .1)
+
+  pub in-range : InRange m
+  in-range = record { entries = entries-are; links = each-in-range (m .links) _ (owned .1 .1 .1 .1 .0 .1 .1) }

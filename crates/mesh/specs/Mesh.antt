@@ -63,7 +63,7 @@ linksAnswer n p i (l ∷ ls) = andThen (linkAnswer n p l i) (linksAnswer n l (i 
 
 -- the entry is all zero
 abbrev pub isZero : Link → Bool
-isZero l = eqb (l .low) 0 && (eqb (l .high) 0 && (eqb (l .length) 0 && eqb (l .pair) 0))
+isZero l = eqb (l .low) 0 && eqb (l .high) 0 && eqb (l .length) 0 && eqb (l .pair) 0
 
 unfoldable pub allZero : List Link → Bool
 allZero [] = true

@@ -46,15 +46,11 @@ pub fn zero_link() -> Link
 pub fn zero_mesh() -> Mesh
     ensures { λ r. ⌜ r ≡ zeroMesh ⌝ }
 {
+    let l = zero_link();
     Mesh {
         nodes: 0,
         count: 0,
-        links: [Link {
-            low: 0,
-            high: 0,
-            length: 0,
-            pair: 0,
-        }; 256],
+        links: [l; 256],
     }
 }
 

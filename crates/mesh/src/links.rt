@@ -54,12 +54,11 @@ pub(crate) fn links_answer(m: Mesh) -> Answer
     Answer::Accepted
 }
 
-// The fields as one number, as they stand in memory, so that the compiler reads them at once.
-fn as_number(l: Link) -> u64
+// The bits of all fields, joined. The factors put them where they stand in memory, so that the compiler reads them at once.
+fn bits_of(l: Link) -> u64
     ensures { λ r. ⌜ eqb r 0 ≡ isZero l ⌝ }
 {
-    let ends = l.low as u64 + 256 * (l.high as u64);
-    ends + 65536 * (l.length as u64) + 4294967296 * (l.pair as u64)
+    l.low as u64 | 256 * (l.high as u64) | 65536 * (l.length as u64) | 4294967296 * (l.pair as u64)
 }
 
 // Whether each entry past the last link is zero. No branch in the loop, so that the compiler can test several entries at once.
@@ -71,7 +70,7 @@ pub(crate) fn rest_is_zero(m: Mesh) -> bool
     let mut i = m.count as usize;
     while i < 256 {
         let l = m.links[i];
-        bits = bits | as_number(l);
+        bits = bits | bits_of(l);
         i += 1;
     }
     bits == 0

@@ -1,6 +1,3 @@
-pub mod Edges
-pub mod Spreading
-pub mod Meeting
 pub mod Fits
 pub mod Tables
 pub mod Directing

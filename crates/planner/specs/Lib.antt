@@ -1,5 +1,4 @@
 pub mod Plan
-pub mod Rows
 pub mod Search
 pub mod Meaning
 pub mod Laws

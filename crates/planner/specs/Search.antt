@@ -10,7 +10,7 @@ use Rattle.graph.specs.Plan.{parts}
 use Rattle.graph.specs.Greedy.{greedy}
 use Rattle.mesh.specs.declared.Mesh.{Mesh}
 use Rattle.planner.specs.Plan.{netOf}
-use Rattle.planner.specs.Rows.{Edge}
+use Rattle.rows.specs.Rows.{Edge}
 
 -- the rows have the net's open ways
 pub record Table (G : Net) (w : Ways) (rows : List ℕ) : Type 0 where

@@ -2,7 +2,6 @@
 ghost use mathlib.Core.Path.{_≡_};
 ghost use Rattle.planner.specs.Plan.{zeroPlan, planned};
 
-mod rows;
 mod search;
 
 use mesh::Answer;

@@ -1,6 +1,5 @@
 // The two searches of the planner: the lowest node that node 0 does not reach, and one pass over the links that gives directions and finds
 // the lowest link whose removal parts the mesh.
-use crate::rows;
 use mesh::Mesh;
 ghost use mathlib.Core.Path.{_≡_};
 ghost use Rattle.mesh.specs.declared.Answer.the-variants.{Accepted};

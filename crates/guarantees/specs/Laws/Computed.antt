@@ -19,7 +19,7 @@ use Rattle.recovery.specs.Formed.{isOver, overflows, isStray, strays, planFault
 use Rattle.recovery.specs.Formed.{recordAnswer as recordSession}
 use Rattle.recovery.specs.Calls.{started, cutAnswer, afterCut, deliverAnswer, afterDelivery, runAnswer, afterRun, routeOf, routed}
 use Rattle.flood.specs.Topology.{carries, routeFrom}
-use Rattle.guarantees.specs.History.{after}
+use Rattle.history.specs.History.{after}
 use Rattle.guarantees.specs.Bench.{Row, table, turns, passing, takenIn, callsOf, startOf, endOf, Holds}
 use Rattle.guarantees.specs.Laws.Same.{sameDecoded, same-decoded, samePlanned, same-planned, sameNumbers, same-numbers}
 use Rattle.guarantees.specs.Laws.Same.{sameReplies, same-replies, sameRouted, same-routed}

@@ -22,7 +22,7 @@ use Rattle.recovery.specs.declared.Report.the-variants as report
 use Rattle.recovery.specs.declared.Status.{Status}
 use Rattle.recovery.specs.declared.Status.the-variants as statuses
 use Rattle.recovery.specs.declared.Routed.{Routed}
-use Rattle.guarantees.specs.History.{Call, Reply, Answered, cut, deliver, run, mend, status, reply, next, answers}
+use Rattle.history.specs.History.{Call, Reply, Answered, cut, deliver, run, mend, status, reply, next, answers}
 
 abbrev pub sameLink : Link → Link → Bool
 sameLink a b = eqb (a .low) (b .low) && (eqb (a .high) (b .high) && (eqb (a .length) (b .length) && eqb (a .pair) (b .pair)))

@@ -3,17 +3,11 @@ use mathlib.Core.Path.{_≡_, sym, _∙_}
 use mathlib.Core.Bool.{true}
 use Prim.Native.Nat.{_≤_}
 use borrow.Author.Tests.{not-true, not-false, leb-true}
-use Rattle.scan.specs.Part.{length-mapped}
 use Rattle.mesh.specs.Mesh.{nodesFit, countFits, meshAnswer}
-use Rattle.mesh.specs.WellFormed.{InRange}
-use Rattle.mesh.proofs.Ranges.{each-in-range}
+use Rattle.mesh.proofs.Ranges.{in-range}
 use borrow.Author.Needs.{needs}
 use Rattle.mesh.proofs.check.Statement.{statement}
 use Rattle.mesh.proofs.check.Tie as tie
-
--- what owning m tells
-in-range : (c : tie.Start) → InRange (c .args .m)
-in-range c = record { entries = search length-mapped; links = each-in-range (c .args .m .links) _ (c .good .0 .1 .1 .1 .1 .0 .1 .1) }
 
 -- the first two tests have passed
 both-fit : (c : tie.Else2) → let m = c .before .before .before .before .args .m in (nodesFit (m .nodes) ≡ true) × (countFits (m .count) ≡ true)
@@ -29,7 +23,7 @@ nodes-fit-requires c κs = search needs
 
 returns : tie.Need-returns
 unfolding meshAnswer
-returns c = (simp (sym (c .before .nodes-fit .ensures) ∙ not-true _ (c .if1 .taken)), in-range (c .before .before))
+returns c = (simp (sym (c .before .nodes-fit .ensures) ∙ not-true _ (c .if1 .taken)), in-range _ _ (c .before .before .good .0))
 
 count-fits-requires : tie.Need-count-fits-requires
 count-fits-requires c κs = search needs
@@ -38,7 +32,7 @@ returns-2 : tie.Need-returns-2
 unfolding meshAnswer
 returns-2 c =
     let d = c .before .before in
-    (simp (sym (d .before .nodes-fit .ensures) ∙ not-false _ (d .if1 .left), sym (c .before .count-fits .ensures) ∙ not-true _ (c .if2 .taken)), in-range (d .before .before))
+    (simp (sym (d .before .nodes-fit .ensures) ∙ not-false _ (d .if1 .left), sym (c .before .count-fits .ensures) ∙ not-true _ (c .if2 .taken)), in-range _ _ (d .before .before .good .0))
 
 links-answer-requires : tie.Need-links-answer-requires
 links-answer-requires c κs = few c
@@ -55,7 +49,7 @@ returns-3 c =
     let t = c .enum-told2 .given in
     let e = c .before .before in
     let (nodes, count) = both-fit (e .before) in
-    (simp (nodes, count, sym (e .links-answer .ensures) ∙ t .1) (t .1), in-range (e .before .before .before .before .before))
+    (simp (nodes, count, sym (e .links-answer .ensures) ∙ t .1) (t .1), in-range _ _ (e .before .before .before .before .before .good .0))
 
 rest-is-zero-requires : tie.Need-rest-is-zero-requires
 rest-is-zero-requires c κs = few (c .before .before .before)
@@ -66,7 +60,7 @@ returns-4 c =
     let t = c .before .before .enum-told .given in
     let e = c .before .before .before .before in
     let (nodes, count) = both-fit (e .before) in
-    (simp (nodes, count, sym (e .links-answer .ensures) ∙ t .1, sym (c .before .rest-is-zero .ensures) ∙ c .if3 .taken), in-range (e .before .before .before .before .before))
+    (simp (nodes, count, sym (e .links-answer .ensures) ∙ t .1, sym (c .before .rest-is-zero .ensures) ∙ c .if3 .taken), in-range _ _ (e .before .before .before .before .before .good .0))
 
 returns-5 : tie.Need-returns-5
 unfolding meshAnswer
@@ -74,7 +68,7 @@ returns-5 c =
     let t = c .before .before .enum-told .given in
     let e = c .before .before .before .before in
     let (nodes, count) = both-fit (e .before) in
-    (simp (nodes, count, sym (e .links-answer .ensures) ∙ t .1, sym (c .before .rest-is-zero .ensures) ∙ c .if3 .left), in-range (e .before .before .before .before .before))
+    (simp (nodes, count, sym (e .links-answer .ensures) ∙ t .1, sym (c .before .rest-is-zero .ensures) ∙ c .if3 .left), in-range _ _ (e .before .before .before .before .before .good .0))
 
 pub check-spec : {M : Type 1} → statement M
 check-spec =

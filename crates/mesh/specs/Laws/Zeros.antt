@@ -5,19 +5,27 @@ use mathlib.Core.Logic.{_≢_, ⊎-elim}
 use mathlib.Core.Bool.{true, false, and-eq-true-iff}
 use mathlib.Core.List.{List, [], _∷_}
 use lib.ListN.{length, getD, replicate}
+use lib.Dec.{eqb, lit<}
 use Rattle.scan.specs.Test.{clash, known, fails, Says, eq-says, and-says}
 use Rattle.scan.specs.Entry.{replicate-at}
 use Rattle.mesh.specs.declared.Link.{Link}
 use Rattle.mesh.specs.Mesh.{zeroLink, isZero, allZero}
+use Rattle.mesh.specs.WellFormed.{LinkInRange}
 
 pub zero-says : (l : Link) → Says (isZero l) (l ≡ zeroLink)
-zero-says l = (λ t. same (fields .0 t), λ e. rw e)
+zero-says l = (same, λ e. rw e)
   where
-    fields : Says (isZero l) ((l .low ≡ 0) × ((l .high ≡ 0) × ((l .length ≡ 0) × (l .pair ≡ 0))))
-    fields = and-says (eq-says (l .low) 0) (and-says (eq-says (l .high) 0) (and-says (eq-says (l .length) 0) (eq-says (l .pair) 0)))
+    zero : (v : ℕ) → Says (eqb v 0) (v ≡ 0)
+    zero v = eq-says v 0
 
-    same : (l .low ≡ 0) × ((l .high ≡ 0) × ((l .length ≡ 0) × (l .pair ≡ 0))) → l ≡ zeroLink
-    same (a, (b, (c, d))) = λ j. record { low = a j; high = b j; length = c j; pair = d j }
+    same : isZero l ≡ true → l ≡ zeroLink
+    same t =
+        let (((low, high), length), pair) = and-says (and-says (and-says (zero (l .low)) (zero (l .high))) (zero (l .length))) (zero (l .pair)) .0 t in
+        λ j. record { low = low j; high = high j; length = length j; pair = pair j }
+
+-- the zero link is in range
+pub zero-in-range : LinkInRange zeroLink
+zero-in-range = record { low = lit< tt; high = lit< tt; length = lit< tt; pair = lit< tt }
 
 pub zero-links : (ls : List Link) → allZero ls ≡ true → ls ≡ replicate (length ls) zeroLink
 unfolding allZero

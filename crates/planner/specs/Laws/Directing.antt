@@ -1,6 +1,6 @@
 -- The pass over the links as the code makes it: link k's two ways are shut in both tables, and by what the searches then say one of them is opened again, which is
 -- the greedy direction, or link k is a bridge. Assumes nothing.
-use Prim.Native.Nat.{ℕ, suc, _+_, _-_, _<_, _≤_}
+use Prim.Native.Nat.{ℕ, suc, _+_, _-_, _%_, _<_, _≤_}
 use mathlib.Core.Path.{_≡_, refl, sym, _∙_, ap}
 use mathlib.Core.Logic.{Iff·symm, Iff·trans}
 use mathlib.Core.Bool.{Bool, true, false, not}
@@ -19,10 +19,10 @@ use Rattle.graph.specs.Greedy.{greedy, direction, begun, bridge}
 use Rattle.graph.specs.Laws.Bridge.{unbridged-up, unbridged-down, bridge-parts}
 use Rattle.graph.specs.Laws.Pass.{greedy-length, begun-late, begun-next, next-up, next-down, stuck-bridge}
 use Rattle.planner.specs.Plan.{netOf}
-use Rattle.planner.specs.Rows.{Mirror, put, cut, Directed, up, down, stuck}
+use Rattle.rows.specs.Rows.{put, cut, Directed, up, down, stuck}
 use Rattle.planner.specs.Search.{Table, Directs}
-use Rattle.planner.specs.Laws.Fits.{well-formed-fits, Simple, simple}
-use Rattle.planner.specs.Laws.Tables.{opened-says, to-leads, from-leads, Tables, both-tables, mirror, same-tables, put-tables, cut-tables}
+use Rattle.planner.specs.Laws.Fits.{well-formed-fits, counted, Simple, simple}
+use Rattle.planner.specs.Laws.Tables.{opened-says, Tables, both-tables, found, none-found, same-tables, put-tables, cut-tables}
 
 -- ---- one link
 
@@ -30,7 +30,7 @@ module _ {G : Net} (F : Fits G) (n : G .nodes ≤ 64) (S : Simple G) (k : ℕ) (
   abbrev rest : Ways
   rest = without k (begun G k)
 
-  pub rest-tables : Tables G rest (cut t (G .low k) (G .high k)) (cut e (G .low k) (G .high k))
+  rest-tables : Tables G rest (cut t (G .low k) (G .high k)) (cut e (G .low k) (G .high k))
   rest-tables = cut-tables T F n k h S (λ d. begun-late G k k d (le-refl k))
 
   -- the link's direction opens its way again
@@ -48,18 +48,18 @@ module _ {G : Net} (F : Fits G) (n : G .nodes ≤ 64) (S : Simple G) (k : ℕ) (
 
   given : {d : ℕ} {x y : List ℕ} → Directed t e (G .low k) (G .high k) d x y → (d ≡ 2 → ⊥) → Given d x y
   given (up w) n =
-      let p = to-leads (rest-tables .out) w in
+      let p = found rest-tables w in
       let q = next-up F k h p in
       record { direction-is = sym q; unbridged = unbridged-up F k h (begun G k) p; after = next-tables false q }
   given (down v w) n =
-      let q = next-down F k h (λ p. v (from-leads (rest-tables .out) p)) in
-      record { direction-is = sym q; unbridged = unbridged-down F k h (begun G k) (to-leads (rest-tables .out) w); after = next-tables true q }
+      let q = next-down F k h (none-found rest-tables v) in
+      record { direction-is = sym q; unbridged = unbridged-down F k h (begun G k) (found rest-tables w); after = next-tables true q }
   given (stuck v w) n = absurd (n refl)
 
   ungiven : Strong G bothWays → None (bridge G) k → {d : ℕ} {x y : List ℕ} → Directed t e (G .low k) (G .high k) d x y → d ≡ 2 → bridge G k ≡ true
   ungiven c f (up w) q = absurd (omega arith)
   ungiven c f (down v w) q = absurd (omega arith)
-  ungiven c f (stuck v w) q = stuck-bridge F c k h f (λ p. v (from-leads (rest-tables .out) p)) (λ p. w (from-leads (rest-tables .out) p))
+  ungiven c f (stuck v w) q = stuck-bridge F c k h f (none-found rest-tables v) (none-found rest-tables w)
 
 -- ---- all links
 
@@ -91,14 +91,17 @@ directing-start {m} T = record {
 }
 
 module _ {m : Mesh} (W : WellFormed m) {t e q : List ℕ} {k : ℕ} (D : Directing m t e q k) where
-  -- without link k's ways the second table still has the arcs of the first
-  pub cut-mirror : k < m .count → Mirror (cut t (link m k .low) (link m k .high)) (cut e (link m k .low) (link m k .high))
-  cut-mirror h = mirror (rest-tables (well-formed-fits W) (W .nodes-most) (simple W) k h (D .tables))
+  -- what the code gives link k, whose ends count as themselves
+  abbrev GivenLink : ℕ → List ℕ → List ℕ → Type 0
+  GivenLink d x y = Directed t e (link m k .low % 64) (link m k .high % 64) d x y
 
-  module _ (h : k < m .count) {d : ℕ} {x y : List ℕ} (A : Directed t e (link m k .low) (link m k .high) d x y) where
+  directed : k < m .count → {d : ℕ} {x y : List ℕ} → GivenLink d x y → Directed t e (link m k .low) (link m k .high) d x y
+  directed h A = let (low, high) = counted (well-formed-fits W) (W .nodes-most) k h in rw (low, high) at A
+
+  module _ (h : k < m .count) {d : ℕ} {x y : List ℕ} (A : GivenLink d x y) where
     pub directing-next : (d ≡ 2 → ⊥) → Directing m x y (set q k d) (k + 1)
     directing-next n =
-        let g = given (well-formed-fits W) (W .nodes-most) (simple W) k h (D .tables) A n in
+        let g = given (well-formed-fits W) (W .nodes-most) (simple W) k h (D .tables) (directed h A) n in
         record {
           within = omega arith;
           tables = rw (add-one k) (g .after);
@@ -114,9 +117,9 @@ module _ {m : Mesh} (W : WellFormed m) {t e q : List ℕ} {k : ℕ} (D : Directi
     whole : None (parts (netOf m)) k
     whole j l = parts-is j (omega (arith, D .within)) ∙ D .unbridged j l
 
-    pub directs-bridge : k < m .count → {d : ℕ} {x y : List ℕ} → Directed t e (link m k .low) (link m k .high) d x y → d ≡ 2 → Directs m q k
+    pub directs-bridge : k < m .count → {d : ℕ} {x y : List ℕ} → GivenLink d x y → d ≡ 2 → Directs m q k
     directs-bridge h A z =
-        let b = ungiven (well-formed-fits W) (W .nodes-most) (simple W) k h (D .tables) joined (D .unbridged) A z in
+        let b = ungiven (well-formed-fits W) (W .nodes-most) (simple W) k h (D .tables) joined (D .unbridged) (directed h A) z in
         record { bridge-is = sym (lowest-found (parts (netOf m)) (m .count) k h whole (parts-is k h ∙ b)); directions-are = λ l. absurd (omega arith) }
 
     pub directs-all : m .count ≤ k → Directs m q k

@@ -1,5 +1,5 @@
 -- The net of a mesh that passes the checks: its links join its nodes, and since the pairs of ends rise no two ways have the same ends. Assumes nothing.
-use Prim.Native.Nat.{ℕ, _+_, _*_, _<_}
+use Prim.Native.Nat.{ℕ, _+_, _*_, _%_, _<_, _≤_}
 use mathlib.Core.Path.{_≡_, refl}
 use mathlib.Core.Logic.{⊎-elim}
 use mathlib.Core.Bool.{Bool, true, false, not}
@@ -22,6 +22,10 @@ well-formed-fits W = record {
   low-below = λ i h. omega (arith, W .joins i h .apart, W .joins i h .inside);
   high-below = λ i h. W .joins i h .inside;
 }
+
+-- the ends are nodes below 64, which count modulo 64 as themselves
+pub counted : {G : Net} → Fits G → G .nodes ≤ 64 → (k : ℕ) → k < G .links → (G .low k % 64 ≡ G .low k) × (G .high k % 64 ≡ G .high k)
+counted F n k h = (omega (arith, F .low-below k h), omega (arith, F .high-below k h))
 
 -- ---- no two ways have the same ends
 

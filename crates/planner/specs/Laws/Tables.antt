@@ -13,9 +13,10 @@ use Rattle.graph.specs.Walk.{Walk, one, replace}
 use Rattle.graph.specs.Net.{Net, Fits, end, Ways, Leads, bothWays, without, code}
 use Rattle.graph.specs.Laws.Arcs.{end-below, arc, reopen, turn, without-free, without-open}
 use Rattle.graph.specs.Laws.Pass.{code-inj}
-use Rattle.planner.specs.Rows.{Edge, Mirror, put, flip, cut}
+use Rattle.rows.specs.Rows.{Edge, Mirror, Meet, Apart, put, flip, cut}
 use Rattle.planner.specs.Search.{Table}
-use Rattle.planner.specs.Laws.Edges.{length-put, length-flip, put-edge, flip-edge}
+use Rattle.rows.specs.Laws.Edges.{length-put, length-flip, put-edge, flip-edge}
+use Rattle.rows.specs.Laws.Meeting.{meet-leads, apart-none}
 use Rattle.planner.specs.Laws.Fits.{Simple}
 
 -- ---- one way
@@ -145,11 +146,18 @@ pub both-tables : {G : Net} {rows : List ℕ} → Table G bothWays rows → Tabl
 both-tables T = record { out = T; into = T }
 
 module _ {G : Net} {w : Ways} {leaving entering : List ℕ} (T : Tables G w leaving entering) where
-  pub mirror : Mirror leaving entering
+  mirror : Mirror leaving entering
   mirror u v = (
     λ e. let a = T .out .ways u v .0 e in T .into .ways v u .1 (turn a (rw Bool·not-not (a .free))),
     λ e. let a = T .into .ways v u .0 e in T .out .ways u v .1 (turn a (a .free)),
   )
+
+  -- what the search from both sides found is a walk of the net, and where it found none there is none
+  pub found : {u v : ℕ} → Meet leaving entering u v → Leads G w u v
+  found m = to-leads (T .out) (meet-leads leaving entering mirror m)
+
+  pub none-found : {u v : ℕ} → Apart leaving entering u v → Leads G w u v → ⊥
+  none-found a p = apart-none leaving entering mirror a (from-leads (T .out) p)
 
   pub same-tables : (x : Ways) → ((i : ℕ) (d : Bool) → i < G .links → (x i d ≡ true) ↔ (w i d ≡ true)) → Tables G x leaving entering
   same-tables x f = record { out = same-ways (T .out) x f; into = same-ways (T .into) (turnedWays x) (λ i d. f i (not d)) }

@@ -3,8 +3,8 @@ use mathlib.Core.Path.{_≡_, _∙_, ap}
 use Rattle.scan.specs.Part.{length-mapped}
 use Rattle.recovery.specs.declared.Change.{Change}
 use Rattle.recovery.specs.Calls.{afterCut, afterRun}
-use Rattle.guarantees.specs.History.{after}
-use Rattle.guarantees.specs.Demand.{Sized}
+use Rattle.history.specs.History.{after}
+use Rattle.history.specs.Demand.{Sized}
 use Rattle.clients.specs.Sessions.{recovered}
 use borrow.Author.Needs.{needs}
 use Rattle.clients.proofs.session.recover.Statement.{statement}

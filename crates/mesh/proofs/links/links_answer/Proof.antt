@@ -5,10 +5,10 @@ use mathlib.Core.Path.{_≡_, refl, sym, _∙_}
 use borrow.Author.Tests.{not-true, not-false}
 use Rattle.scan.specs.Test.{fails}
 use Prim.Native.Nat.{_+_, _-_, _*_, _<_, _≤_}
-use lib.ListN.{length, getD, take, drop}
-use Rattle.scan.specs.Part.{length-mapped}
+use lib.ListN.{getD, take, drop}
 use Rattle.mesh.specs.Mesh.{zeroLink, linksAnswer}
 use Rattle.mesh.specs.Laws.Links.{links-next, links-refused, links-end, next-says}
+use Rattle.mesh.proofs.Ranges.{entries-are}
 use Rattle.mesh.proofs.links.links_answer.Statement.{statement}
 use Rattle.mesh.proofs.links.links_answer.Tie as tie
 
@@ -49,9 +49,10 @@ ends-answer-requires c κs = search needs
 returns : tie.Need-returns Inv-loop μ-loop
 returns c =
     let d = c .before .before .before .before in
-    let a = d .before .before .before .before .before .args .t1 in
+    let start = d .before .before .before .before .before in
+    let a = start .args .t1 in
     let lo = d .before .before .before .loop in
-    let sized : length (a .links) ≡ 256 = search length-mapped in
+    let sized = entries-are a _ (start .good .0) in
     let says = next-says (a .nodes) (lo .prev) (getD (a .links) (lo .i) zeroLink) (lo .i) (lo .last) (lo .inv .2) (lo .inv .1) (omega arith) (d .is-next .ensures) in
     c .ends-answer .ensures
     ∙ sym (lo .inv .3 ∙ links-refused (a .nodes) (lo .prev) (a .links) (a .count) (lo .i) (omega arith) (omega arith) (fails says (not-true _ (c .before .before .before .if1 .taken))))
@@ -68,9 +69,10 @@ loop-less c = search needs
 loop-again : tie.Need-loop-again Inv-loop μ-loop
 loop-again c =
     let d = c .before .before in
-    let a = d .before .before .before .before .before .args .t1 in
+    let start = d .before .before .before .before .before in
+    let a = start .args .t1 in
     let lo = d .before .before .before .loop in
-    let sized : length (a .links) ≡ 256 = search length-mapped in
+    let sized = entries-are a _ (start .good .0) in
     let e = c .pair-of .ensures in
     let says = next-says (a .nodes) (lo .prev) (getD (a .links) (lo .i) zeroLink) (lo .i) (lo .last) (lo .inv .2) (lo .inv .1) (e .1) (d .is-next .ensures) in
     (omega arith, e .1, e .0, lo .inv .3 ∙ links-next (a .nodes) (lo .prev) (a .links) (a .count) (lo .i) (omega arith) (omega arith) (says .0 (not-false _ (c .before .if1 .left))))

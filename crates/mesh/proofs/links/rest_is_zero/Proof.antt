@@ -5,11 +5,11 @@ use mathlib.Core.Path.{_≡_, sym, _∙_}
 use mathlib.Core.Bool.{_&&_}
 use Prim.Native.Nat.{_-_, _≤_}
 use lib.Dec.{eqb}
-use lib.ListN.{length, drop}
-use Rattle.scan.specs.Part.{length-mapped}
+use lib.ListN.{drop}
 use Rattle.scan.specs.Bits.{or-zero}
 use Rattle.mesh.specs.Mesh.{allZero}
 use Rattle.mesh.specs.Laws.Links.{zero-next, zero-end}
+use Rattle.mesh.proofs.Ranges.{entries-are}
 use Rattle.mesh.proofs.links.rest_is_zero.Statement.{statement}
 use Rattle.mesh.proofs.links.rest_is_zero.Tie as tie
 
@@ -31,8 +31,8 @@ mul-l c = search needs
 element-copy-out-l : tie.Need-element-copy-out-l Inv-loop μ-loop
 element-copy-out-l c = search needs
 
-as-number-requires : tie.Need-as-number-requires Inv-loop μ-loop
-as-number-requires c κs = search needs
+bits-of-requires : tie.Need-bits-of-requires Inv-loop μ-loop
+bits-of-requires c κs = search needs
 
 add-i : tie.Need-add-i Inv-loop μ-loop
 add-i c = search needs
@@ -42,16 +42,18 @@ loop-less c = search needs
 
 loop-again : tie.Need-loop-again Inv-loop μ-loop
 loop-again c =
-    let a = c .before .before .before .before .args .t1 in
+    let start = c .before .before .before .before in
+    let a = start .args .t1 in
     let lo = c .before .before .before .loop in
-    let sized : length (a .links) ≡ 256 = search length-mapped in
-    (omega arith, rw (or-zero (lo .bits) (c .as-number .result), c .as-number .ensures) (lo .inv .1 ∙ zero-next (a .links) (lo .i) (eqb (lo .bits) 0) (omega arith)))
+    let sized = entries-are a _ (start .good .0) in
+    (omega arith, rw (or-zero (lo .bits) (c .bits-of .result), c .bits-of .ensures) (lo .inv .1 ∙ zero-next (a .links) (lo .i) (eqb (lo .bits) 0) (omega arith)))
 
 returns : tie.Need-returns Inv-loop μ-loop
 returns c =
-    let a = c .before .before .args .t1 in
+    let start = c .before .before in
+    let a = start .args .t1 in
     let lo = c .before .loop in
-    let sized : length (a .links) ≡ 256 = search length-mapped in
+    let sized = entries-are a _ (start .good .0) in
     sym (lo .inv .1 ∙ zero-end (a .links) (lo .i) (eqb (lo .bits) 0) (omega arith))
 
 pub rest-is-zero-spec : {M : Type 1} → statement M
@@ -64,7 +66,7 @@ rest-is-zero-spec =
     loop-holds
     mul-l
     element-copy-out-l
-    as-number-requires
+    bits-of-requires
     add-i
     loop-less
     loop-again

@@ -1,7 +1,8 @@
 -- `search::all_directions` meets its contract. The loop's invariant is `Directing`; a link that gets no direction is the lowest that parts the mesh.
 use Prim.Native.Nat.{_-_}
 use native.Mathlib.Omega.{arith}
-use Rattle.planner.specs.Laws.Directing.{Directing, directing-start, cut-mirror, directing-next, directs-bridge, directs-all}
+use borrow.Author.Needs.{needs}
+use Rattle.planner.specs.Laws.Directing.{Directing, directing-start, directing-next, directs-bridge, directs-all}
 use Rattle.planner.proofs.search.all_directions.Statement.{statement}
 use Rattle.planner.proofs.search.all_directions.Tie as tie
 
@@ -24,13 +25,7 @@ element-copy-out-l : tie.Need-element-copy-out-l Inv-loop μ-loop
 element-copy-out-l c = omega (arith, c .before .before .pre .0 .count-most)
 
 direct-requires : tie.Need-direct-requires Inv-loop μ-loop
-direct-requires c κs =
-    let turn = c .before .before .before in
-    let W = turn .before .before .pre .0 in
-    let l = turn .before .loop in
-    let h = turn .loop-test .taken in
-    let joins = W .joins (l .k) h in
-    (omega (arith, W .nodes-most, joins .apart, joins .inside), omega (arith, W .nodes-most, joins .inside), cut-mirror W (l .inv) h)
+direct-requires c κs = search needs
 
 returns : tie.Need-returns Inv-loop μ-loop
 returns c =

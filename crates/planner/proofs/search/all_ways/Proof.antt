@@ -1,5 +1,5 @@
 -- `search::all_ways` meets its contract. The loop's invariant: the rows have the ways of the links before k, which the two stores of a turn open for link k.
-use Prim.Native.Nat.{ℕ, _+_, _-_, _≤_, _<_}
+use Prim.Native.Nat.{ℕ, _+_, _-_, _%_, _≤_, _<_}
 use mathlib.Core.Path.{_≡_, refl}
 use mathlib.Core.Logic.{_⊎_, inl, inr, ⊎-elim, Iff·symm, Iff·trans}
 use mathlib.Core.Bool.{true, false}
@@ -20,9 +20,9 @@ use Rattle.mesh.specs.WellFormed.{link}
 use Rattle.mesh.specs.Laws.Checked.{passes}
 use Rattle.graph.specs.Net.{Net, Ways, bothWays}
 use Rattle.planner.specs.Plan.{netOf}
-use Rattle.planner.specs.Rows.{put}
+use Rattle.rows.specs.Rows.{put}
 use Rattle.planner.specs.Search.{Table}
-use Rattle.planner.specs.Laws.Fits.{fits}
+use Rattle.planner.specs.Laws.Fits.{fits, counted}
 use Rattle.planner.specs.Laws.Tables.{opened-both, same-ways, put-way}
 use Rattle.planner.proofs.search.all_ways.Statement.{statement}
 use Rattle.planner.proofs.search.all_ways.Tie as tie
@@ -44,15 +44,13 @@ before-next k i = (
 )
 
 module _ (m : Mesh) (ok : meshAnswer m ≡ Accepted) (k : ℕ) (h : k < m .count) where
-  ends-fit : (link m k .low < 64) × (link m k .high < 64)
-  ends-fit = let p = passes m ok in (omega (arith, p .nodes-most, p .low-below k h), omega (arith, p .nodes-most, p .high-below k h))
-
-  next-before : {t s x : List ℕ} → Table (netOf m) (before k) t → s ≡ put t (link m k .low) (link m k .high) → x ≡ put s (link m k .high) (link m k .low)
+  next-before : {t s x : List ℕ} → Table (netOf m) (before k) t → s ≡ put t (link m k .low % 64) (link m k .high % 64) → x ≡ put s (link m k .high % 64) (link m k .low % 64)
       → Table (netOf m) (before (k + 1)) x
   next-before T e f =
       let F = fits m ok in
       let n = passes m ok .nodes-most in
-      rw (f, e)
+      let (low, high) = counted F n k h in
+      rw (f, e, low, high)
       (same-ways (put-way (put-way T F n k h false) F n k h true) (before (k + 1))
       (λ i d l. Iff·trans (before-next k i) (Iff·symm (opened-both k (before k) i d))))
 
@@ -79,17 +77,10 @@ element-copy-out-l c =
     omega (arith, passes (s .args .t1) (s .pre) .count-most)
 
 put-arc-requires : tie.Need-put-arc-requires Inv-loop μ-loop
-put-arc-requires c κs =
-    let turn = c .before .before in
-    let s = turn .before .before in
-    ends-fit (s .args .t1) (s .pre) (turn .before .loop .k) (turn .loop-test .taken)
+put-arc-requires c κs = search needs
 
 put-arc-requires-2 : tie.Need-put-arc-requires-2 Inv-loop μ-loop
-put-arc-requires-2 c κs =
-    let turn = c .before .before .before .before in
-    let s = turn .before .before in
-    let (low, high) = ends-fit (s .args .t1) (s .pre) (turn .before .loop .k) (turn .loop-test .taken) in
-    (high, low)
+put-arc-requires-2 c κs = search needs
 
 add-k : tie.Need-add-k Inv-loop μ-loop
 add-k c = omega arith

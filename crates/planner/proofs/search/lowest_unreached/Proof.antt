@@ -1,10 +1,11 @@
 -- `search::lowest_unreached` meets its contract: the search from node 0 finds just the nodes that node 0 reaches, and the loop stops at the lowest
 -- that is not among them.
-use Prim.Native.Nat.{ℕ, _-_, _≤_, _<_}
+use Prim.Native.Nat.{ℕ, _-_, _%_, _≤_, _<_}
 use mathlib.Core.Path.{_≡_, sym, _∙_, ap}
 use mathlib.Core.Bool.{true, not}
 use mathlib.Core.List.{List}
 use native.Mathlib.Omega.{arith}
+use borrow.Author.Needs.{needs}
 use Rattle.scan.specs.Lowest.{lowest, None, none-yet, none-next, lowest-found, lowest-none}
 use Rattle.scan.specs.Bits.{has}
 use Rattle.mesh.specs.declared.Mesh.{Mesh}
@@ -15,9 +16,9 @@ use Rattle.graph.specs.Net.{bothWays}
 use Rattle.graph.specs.Plan.{unreached}
 use Rattle.graph.specs.Laws.Reached.{reaches-by}
 use Rattle.planner.specs.Plan.{netOf}
-use Rattle.planner.specs.Rows.{Spread}
+use Rattle.rows.specs.Rows.{Spread}
 use Rattle.planner.specs.Search.{Table}
-use Rattle.planner.specs.Laws.Spreading.{spread-says}
+use Rattle.rows.specs.Laws.Spreading.{spread-says}
 use Rattle.planner.specs.Laws.Fits.{fits}
 use Rattle.planner.specs.Laws.Tables.{to-leads, from-leads}
 use Rattle.planner.proofs.search.lowest_unreached.Statement.{statement}
@@ -48,14 +49,18 @@ abbrev μ-loop : tie.MeasureT-loop
 μ-loop table nodes reached v₀ v = nodes - v
 
 spread-requires : tie.Need-spread-requires Inv-loop μ-loop
-spread-requires c κs = omega arith
+spread-requires c κs = search needs
 
 loop-holds : tie.Need-loop-holds Inv-loop μ-loop
 loop-holds c = (omega arith, none-yet _)
 
 has-node-requires : tie.Need-has-node-requires Inv-loop μ-loop
-has-node-requires c κs =
-    let s = c .before .before .before in
+has-node-requires c κs = search needs
+
+-- a node counts modulo 64 as itself
+counted-node : (c : tie.After-has-node Inv-loop μ-loop) → let v = c .before .before .loop .v in v % 64 ≡ v
+counted-node c =
+    let s = c .before .before .before .before in
     omega (arith, passes (s .args .m) (s .pre .0) .nodes-most)
 
 returns : tie.Need-returns Inv-loop μ-loop
@@ -65,7 +70,7 @@ returns c =
     let searched = turn .before .before in
     let s = searched .before in
     found (s .args .m) (s .pre .0) (s .pre .1) (searched .spread .ensures) (l .v) (l .inv .1) (turn .loop-test .taken)
-    (rw (c .before .has-node .ensures) at (c .if1 .taken))
+    (rw (c .before .has-node .ensures, counted-node (c .before)) at (c .if1 .taken))
 
 add-v : tie.Need-add-v Inv-loop μ-loop
 add-v c = omega arith
@@ -76,7 +81,7 @@ loop-less c = omega arith
 loop-again : tie.Need-loop-again Inv-loop μ-loop
 loop-again c =
     let l = c .before .before .before .loop in
-    (omega arith, none-next _ _ (l .inv .1) (rw (c .before .has-node .ensures) at (c .if1 .left)))
+    (omega arith, none-next _ _ (l .inv .1) (rw (c .before .has-node .ensures, counted-node (c .before)) at (c .if1 .left)))
 
 returns-2 : tie.Need-returns-2 Inv-loop μ-loop
 returns-2 c =

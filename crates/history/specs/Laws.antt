@@ -1,0 +1,14 @@
+pub mod Backup
+pub mod Kept
+pub mod Recovered
+pub mod Refused
+pub mod Routed
+pub mod Ruled
+pub mod RuledCalls
+pub mod RuledNext
+pub mod RuledReply
+pub mod RuledRun
+pub mod RuledSteps
+pub mod RuledTests
+pub mod Started
+pub mod Wording

@@ -1,0 +1,83 @@
+-- A session that passes its record test follows the rules, call by call, and so over a list of calls: what the rules see of it are functions, equal where
+-- their values are. Assumes nothing.
+use mathlib.Core.Path.{_≡_, refl, _∙_, ap, ap₂, subst}
+use mathlib.Core.List.{List, [], _∷_, _++_, append-assoc}
+use Rattle.mesh.specs.declared.Mesh.{Mesh}
+use Rattle.mesh.specs.declared.Plan.{Plan}
+use Rattle.mesh.specs.declared.Answer.the-variants.{Accepted}
+use Rattle.flood.specs.Digraph.{Digraph}
+use Rattle.recovery.specs.declared.Session.{Session}
+use Rattle.recovery.specs.Formed.{recordAnswer}
+use Rattle.recovery.specs.Calls.{backup, digraph, freshOn}
+use Rattle.history.specs.History.{Call, reply, next, after}
+use Rattle.history.specs.Rules.{Now, start, ruleNext, ruleReply, ruled}
+use Rattle.history.specs.Demand.{Follows, Sized, seen, CallFollows}
+use Rattle.history.specs.Laws.RuledCalls.{fresh-seen}
+use Rattle.history.specs.Laws.RuledNext.{next-mesh-plan, next-sized, next-seen}
+use Rattle.history.specs.Laws.RuledReply.{reply-seen}
+
+-- ---- to follow is to be seen so
+
+follows-seen : {s : Session} {n : Now} → Follows s n → seen s ≡ n
+follows-seen F = λ t. record { cut = F .cut t; state = λ i. F .state i t; reached = λ v. F .reached v t }
+
+seen-follows : {s : Session} {n : Now} → seen s ≡ n → Follows s n
+seen-follows e = record { cut = λ t. e t .cut; state = λ i t. e t .state i; reached = λ v t. e t .reached v }
+
+pub fresh-follows : (m : Mesh) (p : Plan) → Follows (freshOn m p) start
+fresh-follows m p = seen-follows (fresh-seen m p)
+
+-- ---- one call
+
+module _ (s : Session) (n : Now) (z : Sized s) (r : recordAnswer s ≡ Accepted) (F : Follows s n) where
+  pub reply-follows : (c : Call) → reply c s ≡ ruleReply (digraph s) c n
+  reply-follows c = reply-seen s z r c ∙ ap (ruleReply (digraph s) c) (follows-seen F)
+
+  pub next-follows : (c : Call) → Follows (next c s) (ruleNext (digraph s) c n)
+  next-follows c = seen-follows (next-seen s z r c ∙ ap (ruleNext (digraph s) c) (follows-seen F))
+
+-- from what the session holds
+pub call-as-ruled : (s : Session) → Sized s → recordAnswer s ≡ Accepted → (c : Call) → CallFollows s c
+call-as-ruled s z r c =
+    let (mesh, plan) = next-mesh-plan c s in
+    record { mesh = mesh; plan = plan; follows = seen-follows (next-seen s z r c); answered = reply-seen s z r c }
+
+-- ---- a list of calls
+
+same-backup : {m m′ : Mesh} {p p′ : Plan} → (m ≡ m′) × (p ≡ p′) → backup m p ≡ backup m′ p′
+same-backup (a, b) = ap₂ backup a b
+
+pub after-mesh-plan : (calls : List Call) (s : Session) → (after calls s .mesh ≡ s .mesh) × (after calls s .plan ≡ s .plan)
+unfolding after
+after-mesh-plan [] s = (refl, refl)
+after-mesh-plan (c ∷ cs) s =
+    let (m, p) = after-mesh-plan cs (next c s) in
+    let (m₀, p₀) = next-mesh-plan c s in
+    (m ∙ m₀, p ∙ p₀)
+
+pub after-sized : (calls : List Call) (s : Session) → Sized s → Sized (after calls s)
+unfolding after
+after-sized [] s z = z
+after-sized (c ∷ cs) s z = after-sized cs (next c s) (next-sized c s z)
+
+-- the session passes its record test before each of the calls, and after them
+abbrev pub Passing : List Call → Session → Type 0
+Passing calls s = (first rest : List Call) → calls ≡ first ++ rest → recordAnswer (after first s) ≡ Accepted
+
+pub list-follows : (s : Session) (n : Now) (calls : List Call) → Sized s → Passing calls s → Follows s n → Follows (after calls s) (ruled (digraph s) calls n)
+unfolding after ruled
+list-follows s n [] z h F = F
+list-follows s n (c ∷ cs) z h F =
+    let m : Now = ruleNext (digraph s) c n in
+    let G : Follows (next c s) m = next-follows s n z (h [] (c ∷ cs) refl) F c in
+    subst (λ (g : Digraph). Follows (after cs (next c s)) (ruled g cs m)) (same-backup (next-mesh-plan c s))
+    (list-follows (next c s) m cs (next-sized c s z) (λ first rest e. h (c ∷ first) rest (ap (_∷_ c) e)) G)
+
+pub list-answers : (s : Session) (n : Now) (calls : List Call) → Sized s → Passing calls s → Follows s n
+    → (first : List Call) (c : Call) (rest : List Call) → calls ≡ first ++ (c ∷ rest)
+    → reply c (after first s) ≡ ruleReply (digraph s) c (ruled (digraph s) first n)
+list-answers s n calls z h F first c rest e =
+    let passing : Passing first s = λ p q d. h p (q ++ (c ∷ rest)) (e ∙ ap (λ (l : List Call). l ++ (c ∷ rest)) d ∙ append-assoc p q (c ∷ rest)) in
+    let m : Now = ruled (digraph s) first n in
+    reply-follows (after first s) m (after-sized first s z) (h first (c ∷ rest) e) (list-follows s n first z passing F) c
+    ∙ ap (λ (g : Digraph). ruleReply g c m) (same-backup (after-mesh-plan first s))

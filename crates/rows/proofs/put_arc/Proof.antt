@@ -1,0 +1,32 @@
+-- `rows::put_arc` meets its contract.
+use borrow.Author.Needs.{needs}
+use Rattle.rows.specs.Rows.{put}
+use Rattle.rows.proofs.put_arc.Statement.{statement}
+use Rattle.rows.proofs.put_arc.Tie as tie
+
+cast-i : tie.Need-cast-i
+cast-i c = search needs
+
+mul-rows : tie.Need-mul-rows
+mul-rows c = search needs
+
+element-copy-out-rows : tie.Need-element-copy-out-rows
+element-copy-out-rows c = search needs
+
+digit-requires : tie.Need-digit-requires
+digit-requires c κs = search needs
+
+mul-rows-2 : tie.Need-mul-rows-2
+mul-rows-2 c = search needs
+
+element-write-rows : tie.Need-element-write-rows
+element-write-rows c = search needs
+
+returns : tie.Need-returns
+unfolding put
+returns c = rw (c .digit .ensures)
+
+pub put-arc-spec : {M : Type 1} → statement M
+put-arc-spec =
+    tie.close
+    (tie.spec cast-i mul-rows element-copy-out-rows digit-requires mul-rows-2 element-write-rows returns)
