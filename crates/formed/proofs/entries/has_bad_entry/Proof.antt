@@ -1,4 +1,4 @@
--- `recovery::formed::has_bad_entry` meets its contract. The loop keeps whether some entry is left over or some entry below i is above the highest.
+-- `formed::entries::has_bad_entry` meets its contract. The loop keeps whether some entry is left over or some entry below i is above the highest.
 use Prim.Native.Nat.{_-_, _≤_}
 use mathlib.Core.Path.{_≡_}
 use mathlib.Core.Bool.{_||_}
@@ -7,10 +7,10 @@ use lib.Dec.{ltb}
 use borrow.Author.Needs.{needs}
 use Rattle.scan.specs.Entry.{at}
 use Rattle.scan.specs.Lowest.{any}
-use Rattle.recovery.specs.Arrays.{highest, isLeftover}
-use Rattle.recovery.specs.Laws.Scans.{overflows-none, overflows-turn, overflows-all}
-use Rattle.recovery.proofs.formed.has_bad_entry.Statement.{statement}
-use Rattle.recovery.proofs.formed.has_bad_entry.Tie as tie
+use Rattle.formed.specs.Entries.{highest, isLeftover}
+use Rattle.formed.specs.Laws.Scans.{overflows-none, overflows-turn, overflows-all}
+use Rattle.formed.proofs.entries.has_bad_entry.Statement.{statement}
+use Rattle.formed.proofs.entries.has_bad_entry.Tie as tie
 
 abbrev Inv-loop : tie.InvT-loop
 Inv-loop kind links entries bad₀ i₀ bad i =

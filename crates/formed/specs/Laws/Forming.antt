@@ -21,11 +21,10 @@ use Rattle.mesh.specs.WellFormed.{WellFormed}
 use Rattle.mesh.specs.Laws.Answer.{refused-accepted, Tells, accepting, refusing, told-accepted, told-refused, tells-accepted, tells-andThen}
 use Rattle.mesh.specs.Laws.Checked.{passes, well-formed, accepts}
 use Rattle.flood.specs.declared.Flood.{Flood}
-use Rattle.recovery.specs.declared.Cut.{Cut}
-use Rattle.recovery.specs.declared.Cut.the-variants as cuts
-use Rattle.recovery.specs.declared.Session.{Session}
-use Rattle.recovery.specs.Formed.{isOver, overflows, isStray, strays, misplaced, planFault, floodFault, startAnswer, recordAnswer}
-use Rattle.recovery.specs.WellFormed.{Bounded, PlanFormed, CutFormed, FloodFormed, Formed, Refusal, of-mesh, ill-formed}
+use Rattle.formed.specs.declared.Cut.{Cut}
+use Rattle.formed.specs.declared.Cut.the-variants as cuts
+use Rattle.formed.specs.Formed.{isOver, overflows, isStray, strays, misplaced, planFault, floodFault, startAnswer, recordAnswer}
+use Rattle.formed.specs.WellFormed.{Bounded, PlanFormed, CutFormed, FloodFormed, Formed, Refusal, of-mesh, ill-formed}
 
 -- ---- one entry
 
@@ -142,50 +141,45 @@ module _ (m : Mesh) (p : Plan) where
   pub refused-start : {number place : ℕ} → startAnswer m p ≡ Refused number place → Refusal m (PlanFormed m p) number place
   refused-start e = told-refused (subst (Told m (PlanFormed m p)) e start-told)
 
-module _ (s : Session) where
+module _ (m : Mesh) (p : Plan) (c : Cut) (f : Flood) where
   -- what a record asks for besides its mesh
   abbrev Rest : Type 0
-  Rest = PlanFormed (s .mesh) (s .plan) × (CutFormed (s .mesh) (s .cut) × FloodFormed (s .mesh) (s .flood))
+  Rest = PlanFormed m p × (CutFormed m c × FloodFormed m f)
 
-  record-told : Told (s .mesh) Rest (recordAnswer s)
+  record-told : Told m Rest (recordAnswer m p c f)
   unfolding recordAnswer
   record-told =
-      tells-andThen (start-told (s .mesh) (s .plan))
-      (λ (e, plan). let says = parts (passes (s .mesh) e .count-most) in
-      branch (Told (s .mesh) Rest) (not (misplaced (s .mesh .count) (s .cut) || floodFault (s .mesh) (s .flood)))
+      tells-andThen (start-told m p)
+      (λ (e, plan). let says = parts (passes m e .count-most) in
+      branch (Told m Rest) (not (misplaced (m .count) c || floodFault m f))
       (λ t. accepting (e, (plan, says .0 t)))
       (λ t. refusing (ill-formed e (λ r. fails says t (r .1)))))
-      (refused-more (s .mesh) (λ r. r .0))
+      (refused-more m (λ r. r .0))
     where
-      parts : s .mesh .count ≤ 256
-          → Says (not (misplaced (s .mesh .count) (s .cut) || floodFault (s .mesh) (s .flood))) (CutFormed (s .mesh) (s .cut) × FloodFormed (s .mesh) (s .flood))
-      parts few =
-          nor-says (misplaced (s .mesh .count) (s .cut)) (floodFault (s .mesh) (s .flood))
-          (cut-says (s .mesh) (s .cut)) (flood-says (s .mesh) (s .flood) few)
+      parts : m .count ≤ 256 → Says (not (misplaced (m .count) c || floodFault m f)) (CutFormed m c × FloodFormed m f)
+      parts few = nor-says (misplaced (m .count) c) (floodFault m f) (cut-says m c) (flood-says m f few)
 
   -- the test accepts exactly the well-formed records
-  pub record-formed : length (s .mesh .links) ≡ 256 → (recordAnswer s ≡ Accepted) ↔ Formed s
+  pub record-formed : length (m .links) ≡ 256 → (recordAnswer m p c f ≡ Accepted) ↔ Formed m p c f
   record-formed sized =
-      let says = told-formed (s .mesh) record-told sized in (
-        λ e. let (w, (p, (c, f))) = says .0 e in record { mesh = w; plan = p; cut = c; flood = f },
+      let says = told-formed m record-told sized in (
+        λ e. let (w, (planned, (placed, flooded))) = says .0 e in record { mesh = w; plan = planned; cut = placed; flood = flooded },
         λ F. says .1 (F .mesh, (F .plan, (F .cut, F .flood))),
       )
 
-  pub record-accepts : meshAnswer (s .mesh) ≡ Accepted → PlanFormed (s .mesh) (s .plan) → CutFormed (s .mesh) (s .cut) → FloodFormed (s .mesh) (s .flood)
-      → recordAnswer s ≡ Accepted
-  record-accepts b p c f = told-accepts (s .mesh) record-told b (p, (c, f))
+  pub record-accepts : meshAnswer m ≡ Accepted → PlanFormed m p → CutFormed m c → FloodFormed m f → recordAnswer m p c f ≡ Accepted
+  record-accepts b planned placed flooded = told-accepts m record-told b (planned, (placed, flooded))
 
   -- it refuses with the mesh's own refusal, or with 13 at 0 where the mesh is accepted and the record is ill-formed
-  pub refused-record : {number place : ℕ} → recordAnswer s ≡ Refused number place → Refusal (s .mesh) (Formed s) number place
-  refused-record e =
-      refused-more (s .mesh) (λ F. (F .plan, (F .cut, F .flood))) _ _ (told-refused (subst (Told (s .mesh) Rest) e record-told))
+  pub refused-record : {number place : ℕ} → recordAnswer m p c f ≡ Refused number place → Refusal m (Formed m p c f) number place
+  refused-record e = refused-more m (λ F. (F .plan, (F .cut, F .flood))) _ _ (told-refused (subst (Told m Rest) e record-told))
 
   -- what holds of any accepted record, however many entries its list of links has
-  pub record-mesh : recordAnswer s ≡ Accepted → meshAnswer (s .mesh) ≡ Accepted
-  record-mesh e = told-accepted (subst (Told (s .mesh) Rest) e record-told) .0
+  pub record-mesh : recordAnswer m p c f ≡ Accepted → meshAnswer m ≡ Accepted
+  record-mesh e = told-accepted (subst (Told m Rest) e record-told) .0
 
-  pub record-few : recordAnswer s ≡ Accepted → s .mesh .count ≤ 256
-  record-few e = passes (s .mesh) (record-mesh e) .count-most
+  pub record-few : recordAnswer m p c f ≡ Accepted → m .count ≤ 256
+  record-few e = passes m (record-mesh e) .count-most
 
-  pub record-cut : recordAnswer s ≡ Accepted → CutFormed (s .mesh) (s .cut)
-  record-cut e = told-accepted (subst (Told (s .mesh) Rest) e record-told) .1 .1 .0
+  pub record-cut : recordAnswer m p c f ≡ Accepted → CutFormed m c
+  record-cut e = told-accepted (subst (Told m Rest) e record-told) .1 .1 .0

@@ -1,7 +1,7 @@
--- `recovery::formed::is_misplaced` meets its contract: each return is the definition's case of the cut.
+-- `formed::is_misplaced` meets its contract: each return is the definition's case of the cut.
 use borrow.Author.Needs.{needs}
-use Rattle.recovery.proofs.formed.is_misplaced.Statement.{statement}
-use Rattle.recovery.proofs.formed.is_misplaced.Tie as tie
+use Rattle.formed.proofs.is_misplaced.Statement.{statement}
+use Rattle.formed.proofs.is_misplaced.Tie as tie
 
 enum-known-cut : tie.Need-enum-known-cut
 enum-known-cut c = search needs

@@ -1,4 +1,4 @@
--- `recovery::formed::has_leftover` meets its contract. The bits that the loop gathers are not all zero just where some entry below i is left over.
+-- `formed::entries::has_leftover` meets its contract. The bits that the loop gathers are not all zero just where some entry below i is left over.
 use Prim.Native.Nat.{_-_, _≤_, min}
 use mathlib.Core.Path.{_≡_, _∙_}
 use mathlib.Core.Bool.{not}
@@ -6,10 +6,10 @@ use native.Mathlib.Omega.{arith}
 use lib.Dec.{eqb}
 use borrow.Author.Needs.{needs}
 use Rattle.scan.specs.Lowest.{any}
-use Rattle.recovery.specs.Arrays.{isLeftover}
-use Rattle.recovery.specs.Laws.Scans.{or-nonzero, past-none, past-turn, past-all}
-use Rattle.recovery.proofs.formed.has_leftover.Statement.{statement}
-use Rattle.recovery.proofs.formed.has_leftover.Tie as tie
+use Rattle.formed.specs.Entries.{isLeftover}
+use Rattle.formed.specs.Laws.Scans.{or-nonzero, past-none, past-turn, past-all}
+use Rattle.formed.proofs.entries.has_leftover.Statement.{statement}
+use Rattle.formed.proofs.entries.has_leftover.Tie as tie
 
 abbrev Inv-loop : tie.InvT-loop
 Inv-loop links entries bits₀ i₀ bits i = (links ≤ i) × (not (eqb bits 0) ≡ any (isLeftover links entries) (min i 256))

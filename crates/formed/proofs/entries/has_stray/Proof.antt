@@ -1,14 +1,14 @@
--- `recovery::formed::has_stray` meets its contract. The loop keeps whether some node below v is a stray; below N none is.
+-- `formed::entries::has_stray` meets its contract. The loop keeps whether some node below v is a stray; below N none is.
 use Prim.Native.Nat.{_-_, _≤_, min}
 use mathlib.Core.Path.{_≡_}
 use native.Mathlib.Omega.{arith}
 use borrow.Author.Needs.{needs}
 use Rattle.scan.specs.Entry.{has}
 use Rattle.scan.specs.Lowest.{any}
-use Rattle.recovery.specs.Formed.{isStray, strays}
-use Rattle.recovery.specs.Laws.Scans.{past-none, past-turn, past-all}
-use Rattle.recovery.proofs.formed.has_stray.Statement.{statement}
-use Rattle.recovery.proofs.formed.has_stray.Tie as tie
+use Rattle.formed.specs.Formed.{isStray, strays}
+use Rattle.formed.specs.Laws.Scans.{past-none, past-turn, past-all}
+use Rattle.formed.proofs.entries.has_stray.Statement.{statement}
+use Rattle.formed.proofs.entries.has_stray.Tie as tie
 
 abbrev Inv-loop : tie.InvT-loop
 Inv-loop nodes reached bad₀ v₀ bad v = (nodes ≤ v) × (bad ≡ any (λ j. isStray nodes j (has reached j)) (min v 64))

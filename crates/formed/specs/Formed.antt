@@ -11,9 +11,8 @@ use Rattle.mesh.specs.declared.Answer.{Answer}
 use Rattle.mesh.specs.declared.Answer.the-variants.{Accepted}
 use Rattle.mesh.specs.Mesh.{must, andThen, meshAnswer}
 use Rattle.flood.specs.declared.Flood.{Flood}
-use Rattle.recovery.specs.declared.Cut.{Cut}
-use Rattle.recovery.specs.declared.Cut.the-variants as cut
-use Rattle.recovery.specs.declared.Session.{Session}
+use Rattle.formed.specs.declared.Cut.{Cut}
+use Rattle.formed.specs.declared.Cut.the-variants as cut
 
 -- entry i, of value v, is above `top`, or past the last link and not zero
 unfoldable pub isOver : ℕ → ℕ → ℕ → ℕ → Bool
@@ -48,9 +47,6 @@ floodFault m f = overflows (m .count) 4 (f .states) || strays (m .nodes) (f .rea
 unfoldable pub startAnswer : Mesh → Plan → Answer
 startAnswer m p = andThen (meshAnswer m) (must (not (planFault m p)) 13 0 Accepted)
 
--- a session's record: mesh, 13
-unfoldable pub recordAnswer : Session → Answer
-recordAnswer s =
-    andThen (startAnswer (s .mesh) (s .plan))
-    (must (not (misplaced (s .mesh .count) (s .cut) || floodFault (s .mesh) (s .flood))) 13 0
-    Accepted)
+-- a session's record, by its pieces: mesh, 13
+unfoldable pub recordAnswer : Mesh → Plan → Cut → Flood → Answer
+recordAnswer m p c f = andThen (startAnswer m p) (must (not (misplaced (m .count) c || floodFault m f)) 13 0 Accepted)

@@ -1,43 +1,42 @@
--- `recovery::formed::record_answer` meets its contract: each return rewrites with the answers that led there.
+-- `formed::record_answer` meets its contract: each return rewrites with the answers that led there.
 use mathlib.Core.Path.{_≡_, sym, _∙_}
 use mathlib.Core.Bool.{false}
 use borrow.Author.Needs.{needs}
+use Rattle.mesh.specs.declared.Plan.{Plan}
 use Rattle.mesh.specs.declared.Answer.the-variants.{Accepted}
 use Rattle.mesh.specs.Mesh.{meshAnswer}
-use Rattle.recovery.specs.declared.Session.{Session}
-use Rattle.recovery.specs.Formed.{overflows, misplaced, planFault, floodFault, startAnswer, recordAnswer}
-use Rattle.recovery.proofs.formed.record_answer.Statement.{statement}
-use Rattle.recovery.proofs.formed.record_answer.Tie as tie
+use Rattle.formed.specs.Formed.{overflows, misplaced, planFault, floodFault, startAnswer, recordAnswer}
+use Rattle.formed.proofs.record_answer.Statement.{statement}
+use Rattle.formed.proofs.record_answer.Tie as tie
 
--- the session, once the mesh is accepted
-abbrev session : tie.After-enum-told → Session
-session c = c .before .before .before .before .args .s
-
--- the places after each part that passes, seen from the next
-abbrev mesh-tested : tie.After-has-bad-entry → tie.After-enum-told
-mesh-tested c = c .before .before .before .before
+-- the start, and the places after each part that passes, seen from the next
+abbrev start : tie.After-enum-told → tie.Start
+start c = c .before .before .before
 
 abbrev plan-tested : tie.Else2 → tie.Else1
 plan-tested c = c .before .before
 
-abbrev cut-tested : tie.After-has-bad-entry2 → tie.Else2
-cut-tested c = c .before .before .before .before
+abbrev cut-tested : tie.Else3 → tie.Else2
+cut-tested c = c .before .before
 
 abbrev states-tested : tie.After-has-stray → tie.Else3
-states-tested c = c .before .before .before
+states-tested c = c .before
+
+abbrev planOf : tie.Start → Plan
+planOf s = record { directions = s .args .directions .now }
 
 -- what is known after each
-mesh-passes : (c : tie.After-enum-told) → meshAnswer (session c .mesh) ≡ Accepted
+mesh-passes : (c : tie.After-enum-told) → meshAnswer (start c .args .mesh) ≡ Accepted
 mesh-passes c = sym (c .before .before .check .ensures .0) ∙ c .enum-told .given .1
 
-start-passes : (c : tie.Else1) → let s = session (mesh-tested (c .before)) in startAnswer (s .mesh) (s .plan) ≡ Accepted
+start-passes : (c : tie.Else1) → let s = start (c .before .before) in startAnswer (s .args .mesh) (planOf s) ≡ Accepted
 unfolding startAnswer planFault
-start-passes c = simp (mesh-passes (mesh-tested (c .before)), sym (c .before .has-bad-entry .ensures) ∙ c .if1 .left)
+start-passes c = simp (mesh-passes (c .before .before), sym (c .before .has-bad-entry .ensures) ∙ c .if1 .left)
 
-well-placed : (c : tie.Else2) → let s = session (mesh-tested (plan-tested c .before)) in misplaced (s .mesh .count) (s .cut) ≡ false
+well-placed : (c : tie.Else2) → let s = start (plan-tested c .before .before) in misplaced (s .args .mesh .count) (s .args .cut) ≡ false
 well-placed c = sym (c .before .is-misplaced .ensures) ∙ c .if2 .left
 
-no-bad-state : (c : tie.Else3) → let s = session (mesh-tested (plan-tested (cut-tested (c .before)) .before)) in overflows (s .mesh .count) 4 (s .flood .states) ≡ false
+no-bad-state : (c : tie.Else3) → let s = start (plan-tested (cut-tested c) .before .before) in overflows (s .args .mesh .count) 4 (s .args .states .now) ≡ false
 no-bad-state c = sym (c .before .has-bad-entry2 .ensures) ∙ c .if3 .left
 
 check-requires : tie.Need-check-requires
@@ -63,7 +62,7 @@ returns-2 : tie.Need-returns-2
 unfolding recordAnswer startAnswer planFault
 returns-2 c =
     let d = c .before in
-    simp (mesh-passes (mesh-tested (d .before)), sym (d .before .has-bad-entry .ensures) ∙ d .if1 .taken) (c .ill-formed .ensures)
+    simp (mesh-passes (d .before .before), sym (d .before .has-bad-entry .ensures) ∙ d .if1 .taken) (c .ill-formed .ensures)
 
 is-misplaced-requires : tie.Need-is-misplaced-requires
 is-misplaced-requires c κs = search needs
@@ -87,7 +86,7 @@ returns-4 : tie.Need-returns-4
 unfolding recordAnswer floodFault
 returns-4 c =
     let d = c .before in
-    let e = cut-tested (d .before) in
+    let e = d .before .before in
     simp (start-passes (plan-tested e), well-placed e, sym (d .before .has-bad-entry2 .ensures) ∙ d .if3 .taken) (c .ill-formed3 .ensures)
 
 has-stray-requires : tie.Need-has-stray-requires
@@ -101,14 +100,14 @@ unfolding recordAnswer floodFault
 returns-5 c =
     let d = c .before in
     let f = states-tested (d .before) in
-    let e = cut-tested (f .before) in
+    let e = cut-tested f in
     simp (start-passes (plan-tested e), well-placed e, no-bad-state f, sym (d .before .has-stray .ensures) ∙ d .if4 .taken) (c .ill-formed4 .ensures)
 
 returns-6 : tie.Need-returns-6
 unfolding recordAnswer floodFault
 returns-6 c =
     let f = states-tested (c .before) in
-    let e = cut-tested (f .before) in
+    let e = cut-tested f in
     simp (start-passes (plan-tested e), well-placed e, no-bad-state f, sym (c .before .has-stray .ensures) ∙ c .if4 .left)
 
 pub record-answer-spec : {M : Type 1} → statement M

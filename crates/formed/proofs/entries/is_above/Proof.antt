@@ -1,10 +1,10 @@
--- `recovery::formed::is_above` meets its contract: each arm's range decides the compare.
+-- `formed::entries::is_above` meets its contract: each arm's range decides the compare.
 use mathlib.Core.Path.{sym}
 use native.Mathlib.Omega.{arith}
 use borrow.Author.Tests.{lt-ltb, le-ltb}
 use borrow.Author.Needs.{needs}
-use Rattle.recovery.proofs.formed.is_above.Statement.{statement}
-use Rattle.recovery.proofs.formed.is_above.Tie as tie
+use Rattle.formed.proofs.entries.is_above.Statement.{statement}
+use Rattle.formed.proofs.entries.is_above.Tie as tie
 
 enum-told : tie.Need-enum-told
 enum-told c = search needs

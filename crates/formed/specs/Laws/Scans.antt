@@ -1,4 +1,4 @@
--- Loops that keep whether some entry failed a test so far, and what they say of the entries of a plan or a session. Serves the proofs of `formed`.
+-- Loops that keep whether some entry failed a test so far, and what they say of the entries of a plan or a session. Serves the proofs of `entries`.
 -- Assumes nothing.
 use Prim.Native.Nat.{ℕ, _+_, _<_, _≤_, min}
 use mathlib.Core.Path.{_≡_, refl, sym, ap, _∙_}
@@ -14,8 +14,8 @@ use Rattle.scan.specs.Test.{Says, or-says, says-same}
 use Rattle.scan.specs.Bits.{or-zero}
 use Rattle.scan.specs.Entry.{at}
 use Rattle.scan.specs.Lowest.{any, any-says, any-none, any-zero, any-turn}
-use Rattle.recovery.specs.Formed.{isOver, overflows}
-use Rattle.recovery.specs.Arrays.{isLeftover}
+use Rattle.formed.specs.Formed.{isOver, overflows}
+use Rattle.formed.specs.Entries.{isLeftover}
 
 -- ---- a loop from n on and below `limit`, over what is not below n and passes q
 

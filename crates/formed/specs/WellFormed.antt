@@ -10,9 +10,8 @@ use Rattle.mesh.specs.declared.Answer.the-variants.{Accepted, Refused}
 use Rattle.mesh.specs.Mesh.{meshAnswer}
 use Rattle.mesh.specs.WellFormed.{WellFormed}
 use Rattle.flood.specs.declared.Flood.{Flood}
-use Rattle.recovery.specs.declared.Cut.{Cut}
-use Rattle.recovery.specs.declared.Cut.the-variants as cuts
-use Rattle.recovery.specs.declared.Session.{Session}
+use Rattle.formed.specs.declared.Cut.{Cut}
+use Rattle.formed.specs.declared.Cut.the-variants as cuts
 
 -- the entry of each link is at most `top`, and each entry past the last link is zero
 pub record Bounded (links top : ℕ) (entries : List ℕ) : Type 0 where
@@ -32,12 +31,12 @@ pub record FloodFormed (m : Mesh) (f : Flood) : Type 0 where
   pub states : Bounded (m .count) 4 (f .states)
   pub reached : (v : ℕ) → v < 64 → has (f .reached) v ≡ true → v < m .nodes
 
--- a well-formed record
-pub record Formed (s : Session) : Type 0 where
-  pub mesh : WellFormed (s .mesh)
-  pub plan : PlanFormed (s .mesh) (s .plan)
-  pub cut : CutFormed (s .mesh) (s .cut)
-  pub flood : FloodFormed (s .mesh) (s .flood)
+-- a well-formed record of a session with these pieces
+pub record Formed (m : Mesh) (p : Plan) (c : Cut) (f : Flood) : Type 0 where
+  pub mesh : WellFormed m
+  pub plan : PlanFormed m p
+  pub cut : CutFormed m c
+  pub flood : FloodFormed m f
 
 -- a refusal of a mesh and of what stands on it, by number and place: the mesh's own, or 13 at 0 where the mesh is accepted and F does not hold
 pub data Refusal (m : Mesh) (F : Type 0) : ℕ → ℕ → Type 0 where
