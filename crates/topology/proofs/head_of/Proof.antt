@@ -1,7 +1,7 @@
--- `recovery::topology::head_of` meets its contract: each return rewrites with the test that led there.
+-- `topology::head_of` meets its contract: each return rewrites with the test that led there.
 use borrow.Author.Tests.{eq-eqb, ne-eqb}
-use Rattle.recovery.proofs.topology.head_of.Statement.{statement}
-use Rattle.recovery.proofs.topology.head_of.Tie as tie
+use Rattle.topology.proofs.head_of.Statement.{statement}
+use Rattle.topology.proofs.head_of.Tie as tie
 
 returns : tie.Need-returns
 returns c = simp (eq-eqb _ _ (c .if1 .taken))
