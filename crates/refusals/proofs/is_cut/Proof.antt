@@ -1,7 +1,7 @@
--- `recovery::answers::is_cut` meets its contract: each return is the definition's case of the cut.
+-- `refusals::is_cut` meets its contract: each return is the definition's case of the cut.
 use borrow.Author.Needs.{needs}
-use Rattle.recovery.proofs.answers.is_cut.Statement.{statement}
-use Rattle.recovery.proofs.answers.is_cut.Tie as tie
+use Rattle.refusals.proofs.is_cut.Statement.{statement}
+use Rattle.refusals.proofs.is_cut.Tie as tie
 
 enum-known-cut : tie.Need-enum-known-cut
 enum-known-cut c = search needs
