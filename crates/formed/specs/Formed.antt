@@ -30,6 +30,11 @@ isStray nodes v r = leb nodes v && r
 unfoldable pub strays : ℕ → List Bool → Bool
 strays nodes reached = any (λ v. isStray nodes v (has reached v)) 64
 
+-- the cut link; 0 where there is none
+abbrev pub cutLink : Cut → ℕ
+cutLink (cut.Link k) = k
+cutLink cut.Nothing = 0
+
 -- the cut is neither a link nor none
 abbrev pub misplaced : ℕ → Cut → Bool
 misplaced links cut.Nothing = false

@@ -1,6 +1,6 @@
 // The test of a session's record: the mesh checks, then 13.
 ghost use mathlib.Core.Path.{_≡_};
-ghost use Rattle.formed.specs.Formed.{misplaced, recordAnswer};
+ghost use Rattle.formed.specs.Formed.{cutLink, misplaced, recordAnswer};
 
 mod entries;
 
@@ -14,6 +14,16 @@ use mesh::Mesh;
 pub enum Cut {
     Nothing,
     Link(u16),
+}
+
+// The cut link; 0 where there is none.
+pub fn cut_link(cut: Cut) -> u16
+    ensures { λ r. ⌜ r ≡ cutLink cut ⌝ }
+{
+    match cut {
+        Cut::Link(k) => k,
+        Cut::Nothing => 0,
+    }
 }
 
 // Whether the cut is neither a link nor none.
