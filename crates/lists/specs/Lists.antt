@@ -3,9 +3,9 @@ use Prim.Native.Nat.{ℕ, zero, suc, _/_, min}
 use mathlib.Core.List.{List, [], _∷_, _++_}
 use lib.ListN.{length, getD, drop}
 use Rattle.history.specs.History.{Call, Answered}
-use Rattle.calls.specs.declared.Numbers.{Numbers}
-use Rattle.calls.specs.Encoding.{callOf}
-use Rattle.calls.specs.Record.{replyNumbers}
+use Rattle.call.specs.declared.Numbers.{Numbers}
+use Rattle.call.specs.Encoding.{callOf}
+use Rattle.call.specs.Record.{replyNumbers}
 
 -- the n calls that the letters and numbers from index i on say; a number that is not there is 0
 unfoldable pub callsFrom : List ℕ → List ℕ → ℕ → ℕ → List Call

@@ -5,8 +5,8 @@ ghost use lib.ListN.{length, getD};
 ghost use lib.Seq.{sets};
 ghost use Rattle.history.specs.History.{after, answers};
 ghost use Rattle.lists.specs.Lists.{callsOf, listOf, written};
-use calls::Numbers;
-use calls::make_call;
+use call::Numbers;
+use call::make_call;
 use recovery::Session;
 
 fn lower(a: usize, b: usize) -> usize

@@ -1,25 +1,28 @@
 -- What each call gives, for every session and every argument: the refusals in order, then the flood's own begin, step and run. A refused
 -- call hands the session back unaltered (01, "The recovery machine" and "Order"). Definitions only.
 use Prim.Native.Nat.{ℕ}
-use mathlib.Core.Bool.{Bool, true, false, cond, not, _&&_}
+use mathlib.Core.Bool.{Bool, false, cond, _&&_}
 use mathlib.Core.List.{List, []}
-use lib.Dec.{eqb, ltb}
+use lib.Dec.{eqb}
 use lib.ListN.{replicate}
 use Rattle.scan.specs.Entry.{at}
 use Rattle.mesh.specs.declared.Mesh.{Mesh}
 use Rattle.mesh.specs.declared.Plan.{Plan}
 use Rattle.mesh.specs.declared.Answer.{Answer}
 use Rattle.mesh.specs.declared.Answer.the-variants.{Accepted, Refused}
-use Rattle.mesh.specs.Mesh.{must, andThen, zeroMesh}
-use Rattle.mesh.specs.Arc.{backTail, backHead}
+use Rattle.mesh.specs.Mesh.{zeroMesh}
 use Rattle.flood.specs.declared.Flood.{Flood}
 use Rattle.flood.specs.Digraph.{Digraph, Failure}
 use Rattle.flood.specs.Digraph as failures
 use Rattle.flood.specs.Machine as machine
-use Rattle.flood.specs.Machine.{underWay, fresh, atRest, activity, takenLinks, begin, step}
+use Rattle.flood.specs.Machine.{fresh, atRest, activity, takenLinks, begin, step}
 use Rattle.flood.specs.Topology.{routeFrom, asRoute}
-use Rattle.recovery.specs.declared.Cut.{Cut}
-use Rattle.recovery.specs.declared.Cut.the-variants as cut
+use Rattle.formed.specs.declared.Cut.{Cut}
+use Rattle.formed.specs.declared.Cut.the-variants as cut
+use Rattle.formed.specs.Formed.{startAnswer}
+use Rattle.topology.specs.Backup.{backup}
+use Rattle.refusals.specs.Refusals as refusals
+use Rattle.refusals.specs.Refusals.{standing}
 use Rattle.recovery.specs.declared.Session.{Session}
 use Rattle.recovery.specs.declared.Change.{Change}
 use Rattle.recovery.specs.declared.Delivered.{Delivered}
@@ -30,14 +33,11 @@ use Rattle.recovery.specs.declared.Run.{Run}
 use Rattle.recovery.specs.declared.Status.{Status}
 use Rattle.recovery.specs.declared.Status.the-variants as status
 use Rattle.recovery.specs.declared.Routed.{Routed}
-use Rattle.recovery.specs.Formed.{startAnswer, recordAnswer}
+use Rattle.recovery.specs.Formed.{recordAnswer}
 
 -- ---- what a session is about
 
--- the back-up digraph of a mesh under a plan
-abbrev pub backup : Mesh → Plan → Digraph
-backup m p = record { nodes = m .nodes; links = m .count; tail = backTail m p; head = backHead m p }
-
+-- its back-up digraph
 abbrev pub digraph : Session → Digraph
 digraph s = backup (s .mesh) (s .plan)
 
@@ -49,22 +49,7 @@ failureOf g cut.Nothing = record { source = 0; target = 0; blocked = λ i. false
 abbrev pub failure : Session → Failure
 failure s = failureOf (digraph s) (s .cut)
 
--- a cut stands; link k is the cut one
-abbrev pub standing : Cut → Bool
-standing cut.Nothing = false
-standing (cut.Link k) = true
-
-abbrev pub isCut : Cut → ℕ → Bool
-isCut cut.Nothing k = false
-isCut (cut.Link c) k = eqb c k
-
--- k names a link; link k is under way; no link is
-abbrev pub isLink : Session → ℕ → Bool
-isLink s k = ltb k (s .mesh .count)
-
-abbrev pub busy : Session → ℕ → Bool
-busy s k = underWay (at (s .flood .states) k)
-
+-- no link is under way
 abbrev pub resting : Session → Bool
 resting s = atRest (digraph s) (s .flood)
 
@@ -85,36 +70,22 @@ zeroSession = freshOn zeroMesh (record { directions = replicate 256 0 })
 abbrev pub cutOn : Session → ℕ → Session
 cutOn s k = record { mesh = s .mesh; plan = s .plan; cut = cut.Link k; flood = begin (digraph s) (failures.cut (digraph s) k) (s .flood) }
 
--- ---- the refusals of each call in order, after those of its record
+-- ---- the refusals of each call, after those of its record
 
-abbrev pub tested : Session → Answer → Answer
-tested s next = andThen (recordAnswer s) next
+abbrev pub cutAnswer : Session → ℕ → Answer
+cutAnswer s k = refusals.cutAnswer (recordAnswer s) (s .mesh .count) (s .cut) k
 
--- cut: 12, 22
-unfoldable pub cutAnswer : Session → ℕ → Answer
-cutAnswer s k = tested s (must (isLink s k) 12 k (must (not (standing (s .cut))) 22 k Accepted))
+abbrev pub deliverAnswer : Session → ℕ → Answer
+deliverAnswer s k = refusals.deliverAnswer (recordAnswer s) (s .mesh .count) (s .cut) (s .flood .states) k
 
--- delivery: 12, 23, 24
-unfoldable pub deliverAnswer : Session → ℕ → Answer
-deliverAnswer s k = tested s (must (isLink s k) 12 k (must (standing (s .cut)) 23 k (must (busy s k) 24 k Accepted)))
+abbrev pub runAnswer : Session → Answer
+runAnswer s = refusals.runAnswer (recordAnswer s) (s .cut)
 
--- run: 23, with the place 0
-unfoldable pub runAnswer : Session → Answer
-runAnswer s = tested s (must (standing (s .cut)) 23 0 Accepted)
+abbrev pub mendAnswer : Session → ℕ → Answer
+mendAnswer s k = refusals.mendAnswer (recordAnswer s) (s .mesh .count) (s .cut) (resting s) k
 
--- mend: 12, 23, 26, 25
-unfoldable pub mendAnswer : Session → ℕ → Answer
-mendAnswer s k =
-    tested s
-    (must (isLink s k) 12 k
-    (must (standing (s .cut)) 23 k
-    (must (isCut (s .cut) k) 26 k
-    (must (resting s) 25 k
-    Accepted))))
-
--- status: 12
-unfoldable pub statusAnswer : Session → ℕ → Answer
-statusAnswer s k = tested s (must (isLink s k) 12 k Accepted)
+abbrev pub statusAnswer : Session → ℕ → Answer
+statusAnswer s k = refusals.statusAnswer (recordAnswer s) (s .mesh .count) k
 
 -- ---- the calls
 

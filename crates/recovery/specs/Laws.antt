@@ -1,5 +1,4 @@
-pub mod Arrays
 pub mod Calls
+pub mod Counts
 pub mod Forming
-pub mod Scans
 pub mod Tested

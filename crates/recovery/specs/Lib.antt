@@ -1,5 +1,4 @@
 pub mod Formed
 pub mod Calls
-pub mod Arrays
-pub mod WellFormed
+pub mod Counts
 pub mod Laws

@@ -4,25 +4,21 @@ ghost use mathlib.Core.List.{[]};
 ghost use lib.ListN.{replicate};
 ghost use Rattle.mesh.specs.declared.Answer.the-variants.{Accepted};
 ghost use Rattle.flood.specs.Topology.{asRoute};
+ghost use Rattle.formed.specs.Formed.{cutLink};
+ghost use Rattle.topology.specs.Backup.{underCut};
+ghost use Rattle.recovery.specs.Formed.{recordAnswer};
 ghost use Rattle.recovery.specs.Calls.{freshOn, started, afterCut, deliverAnswer, afterDelivery, afterRun, afterMend, statusOf, acted, routed};
-ghost use Rattle.recovery.specs.Arrays.{cutLink, lengthBy};
+ghost use Rattle.recovery.specs.Counts.{lengthBy};
 
-mod answers;
-mod formed;
 pub mod in_place;
-mod topology;
 
 use flood::Flood;
 use flood::Route;
+use flood::Topology;
+use formed::Cut;
 use mesh::Answer;
 use mesh::Mesh;
 use mesh::Plan;
-
-// The cut link, or none.
-pub enum Cut {
-    Nothing,
-    Link(u16),
-}
 
 pub struct Session {
     pub mesh: Mesh,
@@ -103,12 +99,37 @@ impl Session {
         }
     }
 
+    // The answer to the session's record.
+    fn tested(self) -> Answer
+        ensures { λ r. ⌜ r ≡ recordAnswer self ⌝ }
+    {
+        let mesh = self.mesh;
+        let plan = self.plan;
+        let directions = plan.directions;
+        let cut = self.cut;
+        let flood = self.flood;
+        let states = flood.states;
+        let reached = flood.reached;
+        formed::record_answer(mesh, &directions, cut, &states, &reached)
+    }
+
+    // The topology under the cut; under a cut of link 0 where none stands.
+    fn around_cut(self) -> Topology
+        ensures { λ r. ⌜ r ≡ underCut (self .mesh) (self .plan) (cutLink (self .cut)) ⌝ }
+    {
+        let mesh = self.mesh;
+        let plan = self.plan;
+        let directions = plan.directions;
+        let cut = self.cut;
+        topology::under_cut(mesh, &directions, formed::cut_link(cut))
+    }
+
     // 01's start on a mesh and a plan: a fresh session, its record tested as in each call; all zeros with no cut on a refusal.
     pub fn start(mesh: Mesh, plan: Plan) -> Change
         ensures { λ r. ⌜ r ≡ started mesh plan ⌝ }
     {
         let fresh = Session::fresh(mesh, plan);
-        let answer = formed::record_answer(fresh);
+        let answer = fresh.tested();
         let Answer::Accepted = answer else {
             let session = Session::fresh(mesh::zero_mesh(), zero_plan());
             return Change { session, answer };
@@ -123,17 +144,19 @@ impl Session {
     pub fn cut(self, link: u16) -> Change
         ensures { λ r. ⌜ r ≡ afterCut self link ⌝ }
     {
-        let answer = answers::cut_answer(self, link);
+        let mesh = self.mesh;
+        let before = self.cut;
+        let answer = refusals::cut_answer(self.tested(), mesh.count, before, link);
         let Answer::Accepted = answer else {
             return Change {
                 session: self,
                 answer,
             };
         };
-        let mesh = self.mesh;
         let plan = self.plan;
-        let before = self.flood;
-        let flood = flooding::begin(topology::topology(mesh, plan, link), before);
+        let directions = plan.directions;
+        let quiet = self.flood;
+        let flood = flooding::begin(topology::under_cut(mesh, &directions, link), quiet);
         let cut = Cut::Link(link);
         let session = Session {
             mesh,
@@ -148,7 +171,11 @@ impl Session {
     pub fn deliver(self, link: u16) -> Delivery
         ensures { λ r. ⌜ r ≡ afterDelivery self link ⌝ }
     {
-        let a = answers::deliver_answer(self, link);
+        let mesh = self.mesh;
+        let cut = self.cut;
+        let flood = self.flood;
+        let states = flood.states;
+        let a = refusals::deliver_answer(self.tested(), mesh.count, cut, &states, link);
         if let Answer::Refused { number, place } = a {
             let answer = Delivered::Refused { number, place };
             return Delivery {
@@ -164,11 +191,7 @@ impl Session {
         requires { ⌜ deliverAnswer self link ≡ Accepted ⌝ }
         ensures { λ r. ⌜ r ≡ afterDelivery self link ⌝ }
     {
-        let mesh = self.mesh;
-        let plan = self.plan;
-        let cut = self.cut;
-        let k = cut_link(cut);
-        let t = topology::topology(mesh, plan, k);
+        let t = self.around_cut();
         let before = self.flood;
         let flood = flooding::step(t, link, before);
         let i = link as usize;
@@ -176,12 +199,8 @@ impl Session {
         let tails = t.tails;
         let heads = t.heads;
         let answer = acted_on(states[i], tails[i], heads[i]);
-        let session = Session {
-            mesh,
-            plan,
-            cut,
-            flood,
-        };
+        let mut session = self;
+        session.flood = flood;
         Delivery { session, answer }
     }
 
@@ -189,7 +208,8 @@ impl Session {
     pub fn run(self, allowance: u32) -> Run
         ensures { λ r. ⌜ r ≡ afterRun self allowance ⌝ }
     {
-        let a = answers::run_answer(self);
+        let cut = self.cut;
+        let a = refusals::run_answer(self.tested(), cut);
         if let Answer::Refused { number, place } = a {
             let report = Report::Refused { number, place };
             return Run {
@@ -197,22 +217,11 @@ impl Session {
                 report,
             };
         }
-        let mesh = self.mesh;
-        let plan = self.plan;
-        let cut = self.cut;
         let before = self.flood;
-        let o = flooding::run(
-            topology::topology(mesh, plan, cut_link(cut)),
-            allowance,
-            before,
-        );
+        let o = flooding::run(self.around_cut(), allowance, before);
         let flood = o.flood;
-        let session = Session {
-            mesh,
-            plan,
-            cut,
-            flood,
-        };
+        let mut session = self;
+        session.flood = flood;
         let report = Report::Made {
             count: o.made,
             rest: o.rest,
@@ -224,14 +233,18 @@ impl Session {
     pub fn mend(self, link: u16) -> Change
         ensures { λ r. ⌜ r ≡ afterMend self link ⌝ }
     {
-        let answer = answers::mend_answer(self, link);
+        let mesh = self.mesh;
+        let cut = self.cut;
+        let flood = self.flood;
+        let states = flood.states;
+        let rest = refusals::is_resting(mesh.count, states);
+        let answer = refusals::mend_answer(self.tested(), mesh.count, cut, rest, link);
         let Answer::Accepted = answer else {
             return Change {
                 session: self,
                 answer,
             };
         };
-        let mesh = self.mesh;
         let plan = self.plan;
         let session = Session::fresh(mesh, plan);
         Change { session, answer }
@@ -241,11 +254,11 @@ impl Session {
     pub fn status(self, link: u16) -> Status
         ensures { λ r. ⌜ r ≡ statusOf self link ⌝ }
     {
-        let a = answers::status_answer(self, link);
+        let mesh = self.mesh;
+        let a = refusals::status_answer(self.tested(), mesh.count, link);
         if let Answer::Refused { number, place } = a {
             return Status::Refused { number, place };
         }
-        let mesh = self.mesh;
         let flood = self.flood;
         let states = flood.states;
         let under_way = states::under_way(mesh.count, states);
@@ -263,20 +276,20 @@ impl Session {
     pub fn route(self) -> Routed
         ensures { λ r. ⌜ r ≡ routed self ⌝ }
     {
-        let answer = answers::run_answer(self);
+        let cut = self.cut;
+        let answer = refusals::run_answer(self.tested(), cut);
         let Answer::Accepted = answer else {
             let route = no_route();
             return Routed { route, answer };
         };
-        if !answers::is_resting(self) {
+        let mesh = self.mesh;
+        let flood = self.flood;
+        let states = flood.states;
+        if !refusals::is_resting(mesh.count, states) {
             let route = no_route();
             return Routed { route, answer };
         }
-        let mesh = self.mesh;
-        let plan = self.plan;
-        let cut = self.cut;
-        let flood = self.flood;
-        let route = flooding::route_of(topology::topology(mesh, plan, cut_link(cut)), flood);
+        let route = flooding::route_of(self.around_cut(), flood);
         Routed { route, answer }
     }
 }
@@ -295,16 +308,6 @@ fn no_route() -> Route
     Route {
         links: [0u16; Session::MOST_LINKS],
         length: 0,
-    }
-}
-
-// The cut link; 0 where there is none.
-fn cut_link(cut: Cut) -> u16
-    ensures { λ r. ⌜ r ≡ cutLink cut ⌝ }
-{
-    match cut {
-        Cut::Link(k) => k,
-        Cut::Nothing => 0,
     }
 }
 

@@ -8,8 +8,8 @@ use lib.Seq.{length-sets}
 use borrow.Author.Needs.{needs}
 use mathlib.Core.List.{List}
 use Rattle.history.specs.History.{Call, after}
-use Rattle.calls.specs.Encoding.{callOf}
-use Rattle.calls.specs.Record.{madeOf}
+use Rattle.call.specs.Encoding.{callOf}
+use Rattle.call.specs.Record.{madeOf}
 use Rattle.lists.specs.Lists.{callsFrom, callsOf, listOf}
 use Rattle.lists.specs.Laws.Lists.{left, stored, session-next, output-next, session-last, output-last, length-calls, stored-front}
 use Rattle.lists.proofs.make_calls.Statement.{statement}

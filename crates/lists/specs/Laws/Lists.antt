@@ -9,9 +9,9 @@ use lib.Seq.{sets}
 use Rattle.scan.specs.Store.{sets-front}
 use Rattle.recovery.specs.declared.Session.{Session}
 use Rattle.history.specs.History.{Call, next, after, answers}
-use Rattle.calls.specs.declared.Made.{Made}
-use Rattle.calls.specs.Encoding.{callOf}
-use Rattle.calls.specs.Record.{madeOf}
+use Rattle.call.specs.declared.Made.{Made}
+use Rattle.call.specs.Encoding.{callOf}
+use Rattle.call.specs.Record.{madeOf}
 use Rattle.lists.specs.Lists.{callsFrom, listOf, recordOf, written}
 
 -- the calls from index i on and below n

@@ -1,31 +1,22 @@
 -- What each call gives by the way it goes. Assumes nothing.
 use Prim.Native.Nat.{ℕ, _<_, _≤_}
 use mathlib.Core.Path.{_≡_, refl, sym, ap, _∙_}
-use mathlib.Core.Bool.{Bool, true, false, cond, and-false}
+use mathlib.Core.Bool.{Bool, true, false, cond}
 use mathlib.Core.List.{List, []}
-use native.Mathlib.Omega.{arith}
-use lib.Dec.{ltb, leb}
-use lib.ListN.{replicate}
-use borrow.Author.Tests.{le-ltb}
 use Rattle.scan.specs.Test.{clash}
-use Rattle.scan.specs.Entry.{at, replicate-at}
-use Rattle.scan.specs.Lowest.{any-none}
-use Rattle.mesh.specs.declared.Mesh.{Mesh}
-use Rattle.mesh.specs.declared.Plan.{Plan}
 use Rattle.mesh.specs.declared.Answer.{Answer}
 use Rattle.mesh.specs.declared.Answer.the-variants.{Accepted, Refused}
-use Rattle.mesh.specs.Mesh.{andThen, meshAnswer}
 use Rattle.flood.specs.declared.Flood.{Flood}
 use Rattle.flood.specs.declared.Topology.{Topology}
 use Rattle.flood.specs.declared.Ran.{Ran}
 use Rattle.flood.specs.declared.Route.{Route}
 use Rattle.flood.specs.Digraph.{Digraph, Failure, cut}
 use Rattle.flood.specs.Machine as machine
-use Rattle.flood.specs.Machine.{fresh, step}
+use Rattle.flood.specs.Machine.{begin, step}
 use Rattle.flood.specs.Topology as topology
 use Rattle.flood.specs.Topology.{underWayOf, asRoute}
-use Rattle.recovery.specs.declared.Cut.{Cut}
-use Rattle.recovery.specs.declared.Cut.the-variants as cuts
+use Rattle.formed.specs.declared.Cut.{Cut}
+use Rattle.formed.specs.declared.Cut.the-variants as cuts
 use Rattle.recovery.specs.declared.Session.{Session}
 use Rattle.recovery.specs.declared.Change.{Change}
 use Rattle.recovery.specs.declared.Delivered.{Delivered}
@@ -35,15 +26,20 @@ use Rattle.recovery.specs.declared.Report.the-variants as report
 use Rattle.recovery.specs.declared.Run.{Run}
 use Rattle.recovery.specs.declared.Status.the-variants as status
 use Rattle.recovery.specs.declared.Routed.{Routed}
-use Rattle.recovery.specs.Formed.{isOver, overflows, isStray, strays, floodFault, startAnswer, recordAnswer}
-use Rattle.recovery.specs.Calls.{digraph, failureOf, failure, standing, freshOn, deliverAnswer, runAnswer, statusAnswer}
+use Rattle.formed.specs.Formed.{cutLink}
+use Rattle.topology.specs.Backup.{underCut}
+use Rattle.topology.specs.Laws.Backup.{cut-digraph, cut-failure}
+use Rattle.refusals.specs.Refusals.{standing}
+use Rattle.recovery.specs.Formed.{recordAnswer}
+use Rattle.recovery.specs.Calls.{digraph, failureOf, failure, cutOn, cutAnswer, deliverAnswer, runAnswer, statusAnswer}
 use Rattle.recovery.specs.Calls.{withFlood, resting, change, deliveryAs, afterDelivery, runAs, afterRun, acted, statusAs, statusOf, routeOf, routedAs}
-use Rattle.recovery.specs.Arrays.{cutLink, lengthBy}
+use Rattle.recovery.specs.Counts.{lengthBy}
 use Rattle.recovery.specs.Laws.Forming.{record-mesh, record-few, record-cut}
-use Rattle.recovery.specs.Laws.Tested.{status-accepted}
-use Rattle.recovery.specs.Laws.Arrays.{under-way-counted, length-counted}
+use Rattle.recovery.specs.Laws.Tested.{cut-accepted, deliver-accepted, run-accepted, status-accepted}
+use Rattle.recovery.specs.Laws.Counts.{under-way-counted, length-counted}
+use Rattle.scan.specs.Entry.{at}
 
--- ---- the cut that stands
+-- ---- the topology under the cut that stands
 
 stands-link : (c : Cut) → standing c ≡ true → c ≡ cuts.Link (cutLink c)
 stands-link cuts.Nothing t = clash t refl
@@ -53,34 +49,19 @@ stands-failure : (g : Digraph) (c : Cut) → standing c ≡ true → cut g (cutL
 stands-failure g cuts.Nothing t = clash t refl
 stands-failure g (cuts.Link k) t = refl
 
-module _ (s : Session) (stands : standing (s .cut) ≡ true) (k : ℕ) (e : k ≡ cutLink (s .cut)) where
-  -- it is a link of an accepted mesh
-  pub standing-link : recordAnswer s ≡ Accepted → (meshAnswer (s .mesh) ≡ Accepted) × (k < s .mesh .count)
-  standing-link r = (record-mesh s r, record-cut s r k (stands-link (s .cut) stands ∙ ap cuts.Link (sym e)))
+module _ (s : Session) (r : recordAnswer s ≡ Accepted) (stands : standing (s .cut) ≡ true) where
+  below : cutLink (s .cut) < s .mesh .count
+  below = record-cut s r (cutLink (s .cut)) (stands-link (s .cut) stands)
 
-  -- the topology under it has the session's failure
-  pub standing-failure : (t : Topology) → topology.failureOf t ≡ cut (digraph s) k → topology.failureOf t ≡ failure s
-  standing-failure t f = f ∙ ap (cut (digraph s)) e ∙ stands-failure (digraph s) (s .cut) stands
+  module _ (t : Topology) (e : t ≡ underCut (s .mesh) (s .plan) (cutLink (s .cut))) where
+    standing-digraph : topology.digraphOf t ≡ digraph s
+    standing-digraph = ap topology.digraphOf e ∙ cut-digraph (s .mesh) (s .plan) (record-mesh s r) (cutLink (s .cut))
 
--- ---- a fresh session
-
-module _ (m : Mesh) where
-  all-quiet : overflows (m .count) 4 (replicate 256 0) ≡ false
-  unfolding overflows isOver
-  all-quiet = any-none _ 256 256 (λ i b. rw (replicate-at {A = ℕ} 256 0 i) (le-ltb (cond (ltb i (m .count)) 4 0) 0 (omega arith))) (omega arith)
-
-  none-reached : strays (m .nodes) (replicate 64 false) ≡ false
-  unfolding strays isStray
-  none-reached = any-none _ 64 64 (λ v b. rw (replicate-at 64 false v) (and-false (leb (m .nodes) v))) (omega arith)
-
-  -- its record is tested as a start on its mesh and plan is
-  pub fresh-answer : (p : Plan) → recordAnswer (freshOn m p) ≡ startAnswer m p
-  unfolding recordAnswer floodFault fresh
-  fresh-answer p = rw (all-quiet, none-reached) (go (startAnswer m p))
-    where
-      go : (a : Answer) → andThen a Accepted ≡ a
-      go Accepted = refl
-      go (Refused number place) = refl
+    standing-failure : topology.failureOf t ≡ failure s
+    standing-failure =
+        ap topology.failureOf e
+        ∙ cut-failure (s .mesh) (s .plan) (record-mesh s r) (cutLink (s .cut)) below
+        ∙ stands-failure (digraph s) (s .cut) stands
 
 -- ---- what each call gives: r is its answer a
 
@@ -135,14 +116,27 @@ pub route-busy : (s : Session) (next : Route) → resting s ≡ false → next �
 unfolding routeOf
 route-busy s next q n = n ∙ sym (ap (λ (b : Bool). asRoute (routeWhere s b)) q)
 
+-- the session after an accepted cut, whose flood begins on the topology t
+pub cut-made : (s : Session) (k : ℕ) (t : Topology) (next : Flood) → cutAnswer s k ≡ Accepted → t ≡ underCut (s .mesh) (s .plan) k
+    → next ≡ begin (topology.digraphOf t) (topology.failureOf t) (s .flood)
+    → _≡_ {A = Session} (record { mesh = s .mesh; plan = s .plan; cut = cuts.Link k; flood = next }) (cutOn s k)
+cut-made s k t next a e n =
+    let (r, below, free) = cut-accepted s k a in
+    let d : topology.digraphOf t ≡ digraph s = ap topology.digraphOf e ∙ cut-digraph (s .mesh) (s .plan) (record-mesh s r) k in
+    let f : topology.failureOf t ≡ cut (digraph s) k = ap topology.failureOf e ∙ cut-failure (s .mesh) (s .plan) (record-mesh s r) k below in
+    λ i. record { mesh = s .mesh; plan = s .plan; cut = cuts.Link k; flood = (n ∙ (λ j. begin (d j) (f j) (s .flood))) i }
+
 -- what is made on the session's topology t
-module _ (s : Session) (t : Topology) (d : topology.digraphOf t ≡ digraph s) (f : topology.failureOf t ≡ failure s) where
+module _ (s : Session) (t : Topology) (e : t ≡ underCut (s .mesh) (s .plan) (cutLink (s .cut))) where
   pub delivery-made : (k : ℕ) (next : Flood) (w : Delivered) → deliverAnswer s k ≡ Accepted
       → next ≡ step (topology.digraphOf t) (topology.failureOf t) k (s .flood)
       → w ≡ acted (at (t .tails) k) (at (t .heads) k) (at (next .states) k)
       → _≡_ {A = Delivery} (record { session = withFlood s next; answer = w }) (afterDelivery s k)
   unfolding afterDelivery topology.digraphOf
   delivery-made k next w a n q =
+      let (r, below, stands, moves) = deliver-accepted s k a in
+      let d = standing-digraph s r stands t e in
+      let f = standing-failure s r stands t e in
       let m : next ≡ step (digraph s) (failure s) k (s .flood) = n ∙ (λ i. step (d i) (f i) k (s .flood)) in
       (λ i. record {
         session = withFlood s (m i);
@@ -154,6 +148,9 @@ module _ (s : Session) (t : Topology) (d : topology.digraphOf t ≡ digraph s) (
       → _≡_ {A = Run} (record { session = withFlood s (o .flood); report = report.Made (o .made) (o .rest) }) (afterRun s allowance)
   unfolding afterRun topology.ranOf
   run-made allowance o a n =
+      let (r, stands) = run-accepted s a in
+      let d = standing-digraph s r stands t e in
+      let f = standing-failure s r stands t e in
       let m : o ≡ ran (digraph s) (failure s) = n ∙ (λ i. ran (d i) (f i)) in
       (λ i. record { session = withFlood s (m i .flood); report = report.Made (m i .made) (m i .rest) })
       ∙ ap (λ (x : Answer). runAs x s (machine.run (digraph s) (failure s) allowance (s .flood))) (sym a)
@@ -161,9 +158,12 @@ module _ (s : Session) (t : Topology) (d : topology.digraphOf t ≡ digraph s) (
       ran : Digraph → Failure → Ran
       ran g x = let r = machine.run g x allowance (s .flood) in record { flood = r .flood; made = r .made; rest = machine.atRest g (r .flood) }
 
-  pub route-made : (next : Route) → resting s ≡ true → next ≡ topology.routeOf t (s .flood) → next ≡ asRoute (routeOf s)
+  pub route-made : (next : Route) → runAnswer s ≡ Accepted → resting s ≡ true → next ≡ topology.routeOf t (s .flood) → next ≡ asRoute (routeOf s)
   unfolding routeOf topology.routeOf topology.failureOf
-  route-made next q n =
+  route-made next a q n =
+      let (r, stands) = run-accepted s a in
+      let d = standing-digraph s r stands t e in
+      let f = standing-failure s r stands t e in
       n
       ∙ (λ i. asRoute (topology.routeFrom (d i) (d i .links) (f i .source) (s .flood .states)))
       ∙ sym (ap (λ (b : Bool). asRoute (routeWhere s b)) q)

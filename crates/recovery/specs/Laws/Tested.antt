@@ -1,42 +1,51 @@
--- What an accepted call has passed, and when a delivery is accepted. Assumes nothing.
+-- What an accepted call on a session has passed, and when a delivery is accepted. Assumes nothing.
 use Prim.Native.Nat.{ℕ, _<_}
-use mathlib.Core.Path.{_≡_}
-use mathlib.Core.Bool.{true, false, and-eq-true-iff}
-use borrow.Author.Tests.{ltb-true, not-true}
-use Rattle.mesh.specs.declared.Answer.the-variants.{Accepted}
-use Rattle.mesh.specs.Laws.Answer.{must-accepted, andThen-accepted}
-use Rattle.flood.specs.Machine.{accepts}
+use mathlib.Core.Path.{_≡_, refl, ap}
+use mathlib.Core.Bool.{Bool, true, false, and-eq-true-iff}
+use lib.Dec.{ltb}
+use borrow.Author.Tests.{lt-ltb}
+use Rattle.scan.specs.Entry.{at}
+use Rattle.mesh.specs.declared.Answer.{Answer}
+use Rattle.mesh.specs.declared.Answer.the-variants.{Accepted, Refused}
+use Rattle.flood.specs.Machine.{underWay, accepts}
+use Rattle.refusals.specs.Refusals as refusals
+use Rattle.refusals.specs.Refusals.{standing}
+use Rattle.refusals.specs.Laws.Tested as pieces
 use Rattle.recovery.specs.declared.Session.{Session}
 use Rattle.recovery.specs.Formed.{recordAnswer}
-use Rattle.recovery.specs.Calls.{digraph, standing, isLink, busy, cutAnswer, deliverAnswer, runAnswer, statusAnswer}
+use Rattle.recovery.specs.Calls.{digraph, resting, cutAnswer, deliverAnswer, runAnswer, mendAnswer, statusAnswer}
+use Rattle.recovery.specs.Laws.Forming.{record-few}
+use Rattle.recovery.specs.Laws.Counts.{resting-counted}
 
 module _ (s : Session) where
   pub cut-accepted : (k : ℕ) → cutAnswer s k ≡ Accepted → (recordAnswer s ≡ Accepted) × (k < s .mesh .count) × (standing (s .cut) ≡ false)
-  unfolding cutAnswer
-  cut-accepted k e =
-      let (r, a) = andThen-accepted (recordAnswer s) _ e in
-      let (l, c) = must-accepted (isLink s k) 12 k _ a in
-      (r, ltb-true k (s .mesh .count) l, not-true (standing (s .cut)) (must-accepted _ 22 k Accepted c .0))
+  cut-accepted k = pieces.cut-accepted (recordAnswer s) (s .mesh .count) k (s .cut)
 
   pub deliver-accepted : (k : ℕ) → deliverAnswer s k ≡ Accepted
       → (recordAnswer s ≡ Accepted) × (k < s .mesh .count) × (standing (s .cut) ≡ true) × (accepts (digraph s) k (s .flood) ≡ true)
-  unfolding deliverAnswer accepts
+  unfolding accepts
   deliver-accepted k e =
-      let (r, a) = andThen-accepted (recordAnswer s) _ e in
-      let (l, b) = must-accepted (isLink s k) 12 k _ a in
-      let (c, u) = must-accepted (standing (s .cut)) 23 k _ b in
-      (r, ltb-true k (s .mesh .count) l, c, rw l (must-accepted (busy s k) 24 k Accepted u .0))
+      let (r, l, c, u) = pieces.deliver-accepted (recordAnswer s) (s .mesh .count) k (s .cut) (s .flood .states) e in
+      (r, l, c, rw (lt-ltb k (s .mesh .count) l) u)
 
   pub run-accepted : runAnswer s ≡ Accepted → (recordAnswer s ≡ Accepted) × (standing (s .cut) ≡ true)
-  unfolding runAnswer
-  run-accepted e = let (r, a) = andThen-accepted (recordAnswer s) _ e in (r, must-accepted (standing (s .cut)) 23 0 Accepted a .0)
+  run-accepted = pieces.run-accepted (recordAnswer s) (s .cut)
 
   pub status-accepted : (k : ℕ) → statusAnswer s k ≡ Accepted → (recordAnswer s ≡ Accepted) × (k < s .mesh .count)
-  unfolding statusAnswer
-  status-accepted k e = let (r, a) = andThen-accepted (recordAnswer s) _ e in (r, ltb-true k (s .mesh .count) (must-accepted (isLink s k) 12 k Accepted a .0))
+  status-accepted k = pieces.status-accepted (recordAnswer s) (s .mesh .count) k
 
   -- with the record test and a cut, a delivery is accepted where the flood accepts it
   pub deliver-accepts : (k : ℕ) → recordAnswer s ≡ Accepted → standing (s .cut) ≡ true → accepts (digraph s) k (s .flood) ≡ true
       → deliverAnswer s k ≡ Accepted
-  unfolding deliverAnswer accepts
-  deliver-accepts k r c a = let (l, u) = and-eq-true-iff (isLink s k) (busy s k) .0 a in rw (r, c, l, u)
+  unfolding refusals.deliverAnswer accepts
+  deliver-accepts k r c a = let (l, u) = and-eq-true-iff (ltb k (s .mesh .count)) (underWay (at (s .flood .states) k)) .0 a in rw (r, c, l, u)
+
+  -- a mend is told that the session is at rest by a count over the states, which is right where the record is accepted
+  pub mend-counted : (k : ℕ) → refusals.mendAnswer (recordAnswer s) (s .mesh .count) (s .cut) (refusals.resting (s .mesh .count) (s .flood .states)) k ≡ mendAnswer s k
+  unfolding refusals.mendAnswer
+  mend-counted k = go (recordAnswer s) (λ r. resting-counted s (record-few s r))
+    where
+      go : (a : Answer) → (a ≡ Accepted → refusals.resting (s .mesh .count) (s .flood .states) ≡ resting s)
+          → refusals.mendAnswer a (s .mesh .count) (s .cut) (refusals.resting (s .mesh .count) (s .flood .states)) k ≡ refusals.mendAnswer a (s .mesh .count) (s .cut) (resting s) k
+      go Accepted same = ap (λ (rest : Bool). refusals.mendAnswer Accepted (s .mesh .count) (s .cut) rest k) (same refl)
+      go (Refused number place) same = refl

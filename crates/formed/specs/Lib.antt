@@ -1,0 +1,4 @@
+pub mod Formed
+pub mod WellFormed
+pub mod Entries
+pub mod Laws

@@ -1,0 +1,52 @@
+-- `refusals::cut_answer` meets its contract: each return rewrites with the tests that led there.
+use mathlib.Core.Path.{_≡_, sym, _∙_}
+use borrow.Author.Needs.{needs}
+use Rattle.mesh.specs.declared.Answer.the-variants.{Accepted}
+use Rattle.refusals.specs.Refusals.{statusAnswer, cutAnswer}
+use Rattle.refusals.specs.Laws.Tested.{link-first}
+use Rattle.refusals.proofs.cut_answer.Statement.{statement}
+use Rattle.refusals.proofs.cut_answer.Tie as tie
+
+-- what is known once 12 is passed
+passes : (c : tie.After-enum-told) → let a = c .before .before .before .args in statusAnswer (a .tested) (a .count) (a .link) ≡ Accepted
+passes c = sym (c .before .before .status-answer .ensures) ∙ c .enum-told .given .1
+
+status-answer-requires : tie.Need-status-answer-requires
+status-answer-requires c κs = search needs
+
+enum-told : tie.Need-enum-told
+enum-told c = search needs
+
+enum-told-2 : tie.Need-enum-told-2
+enum-told-2 c = search needs
+
+returns : tie.Need-returns
+unfolding cutAnswer
+returns c = let t = c .enum-told2 .given .1 in rw (link-first, sym (c .before .before .status-answer .ensures) ∙ t) t
+
+is-standing-requires : tie.Need-is-standing-requires
+is-standing-requires c κs = search needs
+
+refused-requires : tie.Need-refused-requires
+refused-requires c κs = search needs
+
+returns-2 : tie.Need-returns-2
+unfolding cutAnswer
+returns-2 c = let d = c .before .before in rw (link-first, passes (d .before), sym (d .is-standing .ensures) ∙ c .before .if1 .taken) (c .refused .ensures)
+
+returns-3 : tie.Need-returns-3
+unfolding cutAnswer
+returns-3 c = let d = c .before in rw (link-first, passes (d .before), sym (d .is-standing .ensures) ∙ c .if1 .left)
+
+pub cut-answer-spec : {M : Type 1} → statement M
+cut-answer-spec =
+    tie.close
+    (tie.spec
+    status-answer-requires
+    enum-told
+    enum-told-2
+    returns
+    is-standing-requires
+    refused-requires
+    returns-2
+    returns-3)

@@ -1,0 +1,13 @@
+-- `topology::tail_of` meets its contract: each return rewrites with the test that led there.
+use borrow.Author.Tests.{eq-eqb, ne-eqb}
+use Rattle.topology.proofs.tail_of.Statement.{statement}
+use Rattle.topology.proofs.tail_of.Tie as tie
+
+returns : tie.Need-returns
+returns c = simp (eq-eqb _ _ (c .if1 .taken))
+
+returns-2 : tie.Need-returns-2
+returns-2 c = simp (ne-eqb _ _ (c .if1 .left))
+
+pub tail-of-spec : {M : Type 1} → statement M
+tail-of-spec = tie.close (tie.spec returns returns-2)
