@@ -2,8 +2,8 @@
 use flood::Topology;
 use mesh::Link;
 use mesh::Mesh;
+use states::links_of;
 ghost use mathlib.Core.Path.{_≡_};
-ghost use Prim.Native.Nat.{min};
 ghost use lib.ListN.{length, set};
 ghost use Rattle.scan.specs.Entry.{at};
 ghost use Rattle.mesh.specs.Arc.{tailOf, headOf, backTail, backHead};
@@ -11,13 +11,6 @@ ghost use Rattle.topology.specs.Backup.{filled, underCut};
 
 // The tail of a link that may not be offered: no node has this number.
 const CLOSED: u8 = 255;
-
-// How many links the arrays hold.
-fn links_of(count: u16) -> usize
-    ensures { λ r. ⌜ r ≡ min count 256 ⌝ }
-{
-    if count < 256 { count as usize } else { 256 }
-}
 
 // Where the back-up arc of a link starts, and where it ends.
 fn tail_of(link: Link, direction: u8) -> u8
@@ -38,7 +31,7 @@ fn fill_ends(mesh: Mesh, directions: &[u8; 256], tails: &mut [u8; 256], heads: &
     ensures tails { λ _. ⌜ now (tails .exit) ≡ filled (backTail mesh (record { directions = now (directions .entry) })) (mesh .count) (now (tails .entry)) ⌝ }
     ensures heads { λ _. ⌜ now (heads .exit) ≡ filled (backHead mesh (record { directions = now (directions .entry) })) (mesh .count) (now (heads .entry)) ⌝ }
 {
-    let links = links_of(mesh.count);
+    let links = links_of(mesh.count as usize);
     let mut i: usize = 0;
     while i < links {
         let l = mesh.links[i];

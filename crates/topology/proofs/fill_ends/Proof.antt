@@ -21,6 +21,9 @@ Inv-loop directions tails₀ heads₀ mesh links i₀ tails heads i =
 abbrev μ-loop : tie.MeasureT-loop
 μ-loop directions tails₀ heads₀ mesh links i₀ tails heads i = links - i
 
+cast-links-of : tie.Need-cast-links-of Inv-loop μ-loop
+cast-links-of c = search needs
+
 links-of-requires : tie.Need-links-of-requires Inv-loop μ-loop
 links-of-requires c κs = search needs
 
@@ -63,8 +66,8 @@ loop-again c =
     let a = l .before .before .args in
     let lo = l .loop in (
       omega arith,
-      sweep-turn _ (a .tails .now) (lo .tails) (lo .i) (lo .inv .1) (omega arith) _ (c .before .before .tail-of .ensures),
-      sweep-turn _ (a .heads .now) (lo .heads) (lo .i) (lo .inv .2) (omega arith) _ (c .head-of .ensures),
+      sweep-turn _ (a .tails .now) (lo .tails) (lo .i) (lo .inv .1) _ (c .before .before .tail-of .ensures),
+      sweep-turn _ (a .heads .now) (lo .heads) (lo .i) (lo .inv .2) _ (c .head-of .ensures),
     )
 
 returns : tie.Need-returns Inv-loop μ-loop
@@ -81,6 +84,7 @@ fill-ends-spec =
     (tie.spec
     Inv-loop
     μ-loop
+    cast-links-of
     links-of-requires
     loop-holds
     mul-l
