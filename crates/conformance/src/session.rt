@@ -14,11 +14,11 @@ use crate::print::word;
 use clients::session::begin;
 use clients::session::start;
 use flood::Flood;
+use formed::Cut;
 use mesh::Answer;
 use mesh::Link;
 use mesh::Mesh;
 use mesh::Plan;
-use recovery::Cut;
 use recovery::Session;
 
 // Started on the mesh's own plan, started on a plan that is given, or given whole.

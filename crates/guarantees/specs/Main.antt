@@ -27,12 +27,14 @@ use Rattle.planner.specs.Plan.{netOf, planned}
 use Rattle.planner.specs.Meaning.{NoPath, LinkParts, FirstPlan}
 use Rattle.planner.specs.Laws.Meaning.{plan-refuses, plan-first, plan-numbers}
 use Rattle.mesh.specs.declared.Plan.{Plan}
-use Rattle.recovery.specs.declared.Cut.the-variants.{Link}
+use Rattle.formed.specs.declared.Cut.the-variants.{Link}
 use Rattle.recovery.specs.declared.Session.{Session}
-use Rattle.recovery.specs.Formed.{startAnswer, recordAnswer}
-use Rattle.recovery.specs.WellFormed.{PlanFormed, Formed}
-use Rattle.recovery.specs.WellFormed as formed
-use Rattle.recovery.specs.Laws.Forming.{start-formed, refused-start, record-formed, refused-record}
+use Rattle.formed.specs.Formed.{startAnswer}
+use Rattle.formed.specs.WellFormed as formed
+use Rattle.formed.specs.WellFormed.{PlanFormed}
+use Rattle.formed.specs.Laws.Forming.{start-formed, refused-start}
+use Rattle.recovery.specs.Formed.{Formed, recordAnswer}
+use Rattle.recovery.specs.Laws.Forming.{record-formed, refused-record}
 use Rattle.recovery.specs.Calls.{digraph, routeOf}
 use Rattle.history.specs.History.{Call, reply, next, refused, refusedAt}
 use Rattle.history.specs.Demand.{Sized, CallFollows, Demand3, AtRest, OnePath, ended, log}

@@ -12,10 +12,11 @@ use Rattle.flood.specs.Path.{Chain}
 use Rattle.mesh.specs.declared.Mesh.{Mesh}
 use Rattle.mesh.specs.declared.Answer.the-variants.{Accepted}
 use Rattle.planner.specs.Plan.{planned}
-use Rattle.recovery.specs.declared.Cut.the-variants.{Link}
+use Rattle.formed.specs.declared.Cut.the-variants.{Link}
 use Rattle.recovery.specs.declared.Session.{Session}
 use Rattle.recovery.specs.Formed.{recordAnswer}
-use Rattle.recovery.specs.Calls.{backup, digraph, started, afterDelivery}
+use Rattle.topology.specs.Backup.{backup}
+use Rattle.recovery.specs.Calls.{digraph, started, afterDelivery}
 use Rattle.history.specs.History.{Call, Log, reply, next, after, answers, accepted, emptyLog, logged}
 use Rattle.history.specs.Rules.{Now, start, ruleNext, ruleReply, ruled}
 

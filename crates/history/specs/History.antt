@@ -5,8 +5,8 @@ use mathlib.Core.List.{List, [], _∷_}
 use Rattle.scan.specs.Total.{bit}
 use Rattle.mesh.specs.declared.Answer.{Answer}
 use Rattle.mesh.specs.declared.Answer.the-variants.{Accepted, Refused}
-use Rattle.recovery.specs.declared.Cut.{Cut}
-use Rattle.recovery.specs.declared.Cut.the-variants as stands
+use Rattle.formed.specs.declared.Cut.{Cut}
+use Rattle.formed.specs.declared.Cut.the-variants as stands
 use Rattle.recovery.specs.declared.Session.{Session}
 use Rattle.recovery.specs.declared.Delivered.{Delivered}
 use Rattle.recovery.specs.declared.Delivered.the-variants as delivered

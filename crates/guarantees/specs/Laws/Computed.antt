@@ -15,9 +15,10 @@ use Rattle.scan.specs.Sweep.{sweep, sweepFrom}
 use Rattle.scan.specs.Total.{total, count}
 use Rattle.flood.specs.Machine.{fresh, underWay, live, offer, feeds, first, some, atRest, accepts, leaves, opens, begin, arrive, retreat, withdraw, step, play, order}
 use Rattle.flood.specs.Machine.{holds as holds′, accepted as deliveredCount, run as machineRun}
-use Rattle.recovery.specs.Formed.{isOver, overflows, isStray, strays, planFault, floodFault, startAnswer}
-use Rattle.recovery.specs.Formed.{recordAnswer as recordSession}
-use Rattle.recovery.specs.Calls.{started, cutAnswer, afterCut, deliverAnswer, afterDelivery, runAnswer, afterRun, routeOf, routed}
+use Rattle.formed.specs.Formed.{isOver, overflows, isStray, strays, planFault, floodFault, startAnswer}
+use Rattle.formed.specs.Formed.{recordAnswer as recordSession}
+use Rattle.refusals.specs.Refusals.{cutAnswer, deliverAnswer, runAnswer}
+use Rattle.recovery.specs.Calls.{started, afterCut, afterDelivery, afterRun, routeOf, routed}
 use Rattle.flood.specs.Topology.{carries, routeFrom}
 use Rattle.history.specs.History.{after}
 use Rattle.guarantees.specs.Bench.{Row, table, turns, passing, takenIn, callsOf, startOf, endOf, Holds}

@@ -25,7 +25,7 @@ use Rattle.planner.specs.Plan.{netOf, padded, planned}
 use Rattle.planner.specs.Meaning.{FirstPlan}
 use Rattle.planner.specs.Laws.Fits.{well-formed-fits}
 use Rattle.planner.specs.Laws.Meaning.{plan-first, plan-checked}
-use Rattle.recovery.specs.Calls.{backup}
+use Rattle.topology.specs.Backup.{backup}
 
 -- ---- the assignment as a plan
 

@@ -23,10 +23,12 @@ use Rattle.mesh.specs.declared.Mesh.{Mesh}
 use Rattle.mesh.specs.declared.Plan.{Plan}
 use Rattle.mesh.specs.declared.Answer.{Answer}
 use Rattle.mesh.specs.declared.Answer.the-variants.{Accepted, Refused}
-use Rattle.recovery.specs.declared.Cut.the-variants.{Link}
+use Rattle.formed.specs.declared.Cut.the-variants.{Link}
 use Rattle.recovery.specs.declared.Delivered.{Delivered}
 use Rattle.recovery.specs.declared.Session.{Session}
-use Rattle.recovery.specs.Calls.{backup, digraph, failure, standing, withFlood, freshOn, cutOn, cutAnswer, deliverAnswer, runAnswer, mendAnswer}
+use Rattle.topology.specs.Backup.{backup}
+use Rattle.refusals.specs.Refusals.{standing}
+use Rattle.recovery.specs.Calls.{digraph, failure, withFlood, freshOn, cutOn, cutAnswer, deliverAnswer, runAnswer, mendAnswer}
 use Rattle.recovery.specs.Calls.{change, acted, deliveryAs, runAs, afterCut, afterDelivery, afterRun, afterMend}
 use Rattle.history.specs.History.{Call, Log, cut, deliver, run, mend, status, reply, next, after, answers, accepted, emptyLog, note, logged}
 use Rattle.recovery.specs.Laws.Tested.{cut-accepted, deliver-accepted, run-accepted}

@@ -22,7 +22,9 @@ use Rattle.planner.specs.Plan.{planned}
 use Rattle.recovery.specs.declared.Change.{Change}
 use Rattle.recovery.specs.declared.Session.{Session}
 use Rattle.recovery.specs.Formed.{recordAnswer}
-use Rattle.recovery.specs.Calls.{backup, digraph, failure, standing, freshOn, deliveryAs, deliverAnswer, afterDelivery, routeOf}
+use Rattle.topology.specs.Backup.{backup}
+use Rattle.refusals.specs.Refusals.{standing}
+use Rattle.recovery.specs.Calls.{digraph, failure, freshOn, deliveryAs, deliverAnswer, afterDelivery, routeOf}
 use Rattle.history.specs.History.{Call, reply, after, accepted}
 use Rattle.history.specs.Rules.{start, ruled, ruleReply}
 use Rattle.history.specs.Demand.{UnderWay, Recovers, Follows, startedOn, digraphOn, Demand3}

@@ -11,6 +11,7 @@ use Rattle.flood.specs.declared.Flood.{Flood}
 use Rattle.flood.specs.Machine as machine
 use Rattle.recovery.specs.declared.Session.{Session}
 use Rattle.recovery.specs.Formed.{recordAnswer}
+use Rattle.refusals.specs.Refusals as refusals
 use Rattle.recovery.specs.Calls.{digraph, cutAnswer, deliverAnswer, runAnswer, mendAnswer, statusAnswer, change, deliveryAs, runAs}
 use Rattle.recovery.specs.Calls.{afterCut, afterDelivery, afterRun, afterMend, statusOf}
 use Rattle.history.specs.History.{Call, cut, deliver, run, mend, status, reply, next, accepted, isRefusal, refused, refusedAt}
@@ -38,7 +39,7 @@ refused-keeps (status k) s e = refl
 
 -- the record's refusal comes before all others
 pub record-refusal-answers : (s : Session) (number place : ℕ) → recordAnswer s ≡ Refused number place → (c : Call) → reply c s ≡ refusedAt c number place
-unfolding afterCut afterDelivery afterRun afterMend statusOf cutAnswer deliverAnswer runAnswer mendAnswer statusAnswer
+unfolding afterCut afterDelivery afterRun afterMend statusOf refusals.cutAnswer refusals.deliverAnswer refusals.runAnswer refusals.mendAnswer refusals.statusAnswer
 record-refusal-answers s number place e (cut w k) = rw (e, reply)
 record-refusal-answers s number place e (deliver w k) = rw (e, reply)
 record-refusal-answers s number place e (run n) = rw (e, reply)

@@ -19,9 +19,10 @@ use Rattle.mesh.specs.declared.Mesh.{Mesh}
 use Rattle.mesh.specs.declared.Plan.{Plan}
 use Rattle.mesh.specs.declared.Answer.the-variants.{Accepted}
 use Rattle.planner.specs.Plan.{planned}
-use Rattle.recovery.specs.declared.Cut.the-variants.{Link}
+use Rattle.formed.specs.declared.Cut.the-variants.{Link}
 use Rattle.recovery.specs.declared.Session.{Session}
-use Rattle.recovery.specs.Calls.{backup, digraph, resting, routeOf}
+use Rattle.topology.specs.Backup.{backup}
+use Rattle.recovery.specs.Calls.{digraph, resting, routeOf}
 use Rattle.history.specs.History.{Call}
 use Rattle.history.specs.Demand.{AtRest, OnePath, ended, log}
 use Rattle.history.specs.Laws.Kept.{cutSession, kept-cut}

@@ -8,7 +8,8 @@ use Rattle.mesh.specs.declared.Answer.the-variants.{Accepted}
 use Rattle.flood.specs.Digraph.{Digraph}
 use Rattle.recovery.specs.declared.Session.{Session}
 use Rattle.recovery.specs.Formed.{recordAnswer}
-use Rattle.recovery.specs.Calls.{backup, digraph, freshOn}
+use Rattle.topology.specs.Backup.{backup}
+use Rattle.recovery.specs.Calls.{digraph, freshOn}
 use Rattle.history.specs.History.{Call, reply, next, after}
 use Rattle.history.specs.Rules.{Now, start, ruleNext, ruleReply, ruled}
 use Rattle.history.specs.Demand.{Follows, Sized, seen, CallFollows}

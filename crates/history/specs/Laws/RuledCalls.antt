@@ -16,11 +16,14 @@ use Rattle.mesh.specs.Laws.Checked.{Passes, passes}
 use Rattle.flood.specs.Digraph.{Digraph}
 use Rattle.flood.specs.Machine as machine
 use Rattle.flood.specs.Machine.{underWay, fresh, accepts, step, Roomy}
-use Rattle.recovery.specs.declared.Cut.{Cut}
-use Rattle.recovery.specs.declared.Cut.the-variants.{Nothing, Link}
+use Rattle.formed.specs.declared.Cut.{Cut}
+use Rattle.formed.specs.declared.Cut.the-variants.{Nothing, Link}
 use Rattle.recovery.specs.declared.Session.{Session}
-use Rattle.recovery.specs.Formed.{startAnswer, recordAnswer}
-use Rattle.recovery.specs.Calls.{digraph, failureOf, failure, standing, isCut, withFlood, freshOn, cutOn}
+use Rattle.formed.specs.Formed as formed
+use Rattle.refusals.specs.Refusals as refusals
+use Rattle.refusals.specs.Refusals.{standing, isCut}
+use Rattle.recovery.specs.Formed.{recordAnswer}
+use Rattle.recovery.specs.Calls.{digraph, failureOf, failure, withFlood, freshOn, cutOn}
 use Rattle.recovery.specs.Calls.{cutAnswer, deliverAnswer, runAnswer, mendAnswer, statusAnswer}
 use Rattle.history.specs.History.{Form, Call, cut, deliver, run, mend, status}
 use Rattle.history.specs.Rules.{start, stands, names, refusal, effect, runMade}
@@ -66,7 +69,7 @@ module _ (s : Session) (r : recordAnswer s ≡ Accepted) where
 
   -- the refusals
   pub refusal-is : (c : Call) → answerOf c s ≡ refusal g c (seen s)
-  unfolding cutAnswer deliverAnswer runAnswer mendAnswer statusAnswer underWay
+  unfolding refusals.cutAnswer refusals.deliverAnswer refusals.runAnswer refusals.mendAnswer refusals.statusAnswer underWay
   refusal-is (cut w k) = rw (r, stands-is g (s .cut))
   refusal-is (deliver w k) = rw (r, stands-is g (s .cut))
   refusal-is (run n) = rw (r, stands-is g (s .cut))
@@ -75,7 +78,7 @@ module _ (s : Session) (r : recordAnswer s ≡ Accepted) where
 
   -- what the record test tells: the ends of the links are nodes, and there is room for all
   record-passes : Passes (s .mesh)
-  unfolding recordAnswer startAnswer
+  unfolding formed.recordAnswer formed.startAnswer
   record-passes = passes (s .mesh) (andThen-accepted _ _ (andThen-accepted _ _ r .0) .0)
 
   head< : (i : ℕ) → i < g .links → g .head i < g .nodes

@@ -10,7 +10,7 @@ use Rattle.flood.specs.Digraph.{Digraph, Failure, cut}
 use Rattle.flood.specs.Machine.{atRest, step, play, accepted, order, Ran, run, Roomy}
 use Rattle.flood.specs.Laws.Frame.{frame-room, step-frame}
 use Rattle.flood.specs.Laws.Run.{next, next-accepted, run-stop, run-step}
-use Rattle.recovery.specs.declared.Cut.{Cut}
+use Rattle.formed.specs.declared.Cut.{Cut}
 use Rattle.history.specs.Rules.{Now, moving, deliverRule, rest, runRule, runCount}
 use Rattle.history.specs.Laws.RuledTests.{shown, first-under-way, rest-is}
 use Rattle.history.specs.Laws.RuledSteps.{step-ruled}

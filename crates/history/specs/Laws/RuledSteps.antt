@@ -15,8 +15,8 @@ use Rattle.flood.specs.declared.Flood.{Flood}
 use Rattle.flood.specs.Digraph.{Digraph, Failure, cut}
 use Rattle.flood.specs.Machine.{offer, leaves, opens, holds, feeds, first, some, accepts, begin, arrive, retreat, withdraw, step, Roomy}
 use Rattle.flood.specs.Laws.Tests.{at-offer, length-offer, leaves-says, opens-says, first-passes, accepts-says}
-use Rattle.recovery.specs.declared.Cut.{Cut}
-use Rattle.recovery.specs.declared.Cut.the-variants.{Link}
+use Rattle.formed.specs.declared.Cut.{Cut}
+use Rattle.formed.specs.declared.Cut.the-variants.{Link}
 use Rattle.history.specs.Rules.{Now, put, cutRule, quietFrom, heldAt, takenInto, offeredRule, refusedRule, deliverRule}
 use Rattle.history.specs.Laws.RuledTests.{shown, opens-is, some-opens, some-holds, some-feeds, first-feeds}
 

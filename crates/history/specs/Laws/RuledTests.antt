@@ -11,7 +11,7 @@ use Rattle.scan.specs.Lowest.{lowest, any}
 use Rattle.flood.specs.declared.Flood.{Flood}
 use Rattle.flood.specs.Digraph.{Digraph, cut}
 use Rattle.flood.specs.Machine.{underWay, live, holds, feeds, leaves, opens, first, some, atRest}
-use Rattle.recovery.specs.declared.Cut.{Cut}
+use Rattle.formed.specs.declared.Cut.{Cut}
 use Rattle.history.specs.Rules.{Now, moving, quietFrom, heldAt, takenInto, rest}
 
 -- what the rules see of a flood under the cut x

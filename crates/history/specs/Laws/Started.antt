@@ -17,15 +17,17 @@ use Rattle.mesh.specs.Mesh.{meshAnswer}
 use Rattle.mesh.specs.Laws.Checked.{Passes, passes}
 use Rattle.planner.specs.Plan.{planned}
 use Rattle.planner.specs.Laws.Meaning.{plan-checked}
-use Rattle.recovery.specs.declared.Cut.the-variants.{Nothing, Link}
+use Rattle.formed.specs.declared.Cut.the-variants.{Nothing, Link}
 use Rattle.recovery.specs.declared.Change.{Change}
 use Rattle.recovery.specs.declared.Session.{Session}
 use Rattle.recovery.specs.Formed.{recordAnswer}
-use Rattle.recovery.specs.WellFormed.{PlanFormed}
-use Rattle.recovery.specs.Calls.{backup, freshOn, started}
+use Rattle.formed.specs.WellFormed.{PlanFormed}
+use Rattle.formed.specs.Laws.Forming.{cut-says, start-accepts}
+use Rattle.topology.specs.Backup.{backup}
+use Rattle.recovery.specs.Calls.{freshOn, started}
 use Rattle.history.specs.History.{Call, Log, emptyLog}
 use Rattle.history.specs.Demand.{digraphOn, ended, log}
-use Rattle.recovery.specs.Laws.Forming.{cut-says, start-accepts, record-accepts}
+use Rattle.recovery.specs.Laws.Forming.{record-accepts}
 use Rattle.history.specs.Laws.Backup.{plan-most, plan-past, plan-strong}
 use Rattle.history.specs.Laws.Kept.{cutSession, Kept, free, under, calls-kept}
 

@@ -17,8 +17,8 @@ use Rattle.flood.specs.Machine.{offer, opens, accepts, arrive, step}
 use Rattle.flood.specs.Laws.Tests.{Opens, some-opens-says, length-offer}
 use Rattle.flood.specs.Laws.Ways.{withdraw-ways}
 use Rattle.mesh.specs.declared.Answer.the-variants.{Accepted}
-use Rattle.recovery.specs.declared.Cut.{Cut}
-use Rattle.recovery.specs.declared.Cut.the-variants.{Link}
+use Rattle.formed.specs.declared.Cut.{Cut}
+use Rattle.formed.specs.declared.Cut.the-variants.{Link}
 use Rattle.recovery.specs.declared.Delivered.the-variants.{Taken, TurnedBack, Released}
 use Rattle.recovery.specs.declared.Session.{Session}
 use Rattle.recovery.specs.Calls.{digraph, failureOf, acted, deliverAnswer, afterDelivery}
