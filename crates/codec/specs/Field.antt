@@ -1,6 +1,6 @@
 -- Fields that are written only where they differ from their absent value, and the bit map that says which are. Definitions only.
 use Prim.Native.Nat.{ℕ, zero, suc, _+_, _*_, _/_, _%_}
-use mathlib.Core.List.{List, [], _∷_, _++_}
+use mathlib.Core.List.{List, [], _∷_, _++_, map}
 use mathlib.Core.Bool.{Bool, false, cond, not, _&&_, _||_}
 use lib.Dec.{eqb}
 use Rattle.scan.specs.Bytes.{bytes}
@@ -11,6 +11,17 @@ pub record Field : Type 0 where
   pub width : ℕ
   pub value : ℕ
   pub absent : ℕ
+
+abbrev pub field : ℕ → ℕ → ℕ → Field
+field w v a = record { width = w; value = v; absent = a }
+
+-- the bytes of each field
+abbrev pub widthsOf : List Field → List ℕ
+widthsOf fs = map (λ (f : Field). f .width) fs
+
+abbrev pub sum : List ℕ → ℕ
+sum [] = 0
+sum (w ∷ ws) = w + sum ws
 
 -- ---- writing
 
@@ -37,10 +48,14 @@ bitMap (f ∷ fs) = bit (differs f) + 2 * bitMap fs
 abbrev pub odd : ℕ → Bool
 odd b = eqb (b % 2) 1
 
+-- the bits of b from bit i on
+abbrev pub bitsFrom : ℕ → ℕ → ℕ
+bitsFrom b zero = b
+bitsFrom b (suc i) = bitsFrom (b / 2) i
+
 -- bit i of b stands
 abbrev pub stands : ℕ → ℕ → Bool
-stands b zero = odd b
-stands b (suc i) = stands (b / 2) i
+stands b i = odd (bitsFrom b i)
 
 -- how many bytes the fields of these widths take whose bits stand in b
 abbrev pub extent : List ℕ → ℕ → ℕ

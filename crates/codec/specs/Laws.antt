@@ -8,3 +8,6 @@ pub mod Read
 pub mod Writing
 pub mod Needless
 pub mod Prefix
+pub mod Record
+pub mod Cursor
+pub mod ReadRecord

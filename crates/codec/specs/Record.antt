@@ -1,5 +1,5 @@
--- One link's record in the book (01, "The book"). Definitions only.
-use Prim.Native.Nat.{ℕ, _+_}
+-- One link's record in the book (01, "The book"). The fields of a link are named here alone. Definitions only.
+use Prim.Native.Nat.{ℕ, _+_, _^_}
 use mathlib.Core.List.{List, [], _∷_}
 use mathlib.Core.Bool.{Bool, cond, not}
 use lib.ListN.{length, getD, take}
@@ -7,19 +7,9 @@ use lib.Dec.{ltb, leb}
 use Rattle.scan.specs.Bytes.{number}
 use Rattle.mesh.specs.declared.Link.{Link}
 use Rattle.mesh.specs.declared.Answer.{Answer}
-use Rattle.mesh.specs.Mesh.{must, linkAnswer}
-use Rattle.codec.specs.Field.{Field, fieldsBytes, bitMap, stands, extent, needless}
-
--- 01's table: the bytes of each field, in bit order
-abbrev pub widths : List ℕ
-widths = 1 ∷ 1 ∷ 2 ∷ 4 ∷ []
-
-abbrev pub field : ℕ → ℕ → ℕ → Field
-field w v a = record { width = w; value = v; absent = a }
-
--- a link by its fields; the ends need not fit a byte
-abbrev pub linkWith : ℕ → ℕ → ℕ → ℕ → Link
-linkWith low high length pair = record { low = low; high = high; length = length; pair = pair }
+use Rattle.mesh.specs.Mesh.{must, zeroLink, linkAnswer}
+use Rattle.codec.specs.declared.layout.Fields.{Fields}
+use Rattle.codec.specs.Field.{Field, field, widthsOf, sum, fieldsBytes, bitMap, stands, extent, needless}
 
 -- 01's table: the fields of the link l after the link p, each with its bytes, its value and its value when absent
 abbrev pub fieldsOf : Link → Link → List Field
@@ -30,13 +20,25 @@ fieldsOf p l =
     ∷ field 4 (l .pair) 0
     ∷ []
 
+-- a link by its fields; the high end need not fit a byte
+abbrev pub asLink : Fields → Link
+asLink f = record { low = f .low; high = f .high; length = f .length; pair = f .pair }
+
+-- the bytes of each field, in bit order
+abbrev pub widths : List ℕ
+widths = widthsOf (fieldsOf zeroLink zeroLink)
+
+-- the bytes of a record with every field
+abbrev pub longestRecord : ℕ
+longestRecord = 1 + sum widths
+
 -- the record of l after p: a bit map byte, then only the fields whose bit stands
 unfoldable pub recordOf : Link → Link → List ℕ
 recordOf p l = bitMap (fieldsOf p l) ∷ fieldsBytes (fieldsOf p l)
 
--- a bit of 4 to 7 stands in the bit map
+-- a bit past that of the last field stands in the bit map
 abbrev pub reserved : ℕ → Bool
-reserved b = leb 16 b
+reserved b = leb (2 ^ length widths) b
 
 -- the length of a record with the bit map b: 1 plus the bytes of the fields whose bits stand; 0 where a reserved bit stands
 unfoldable pub recordLength : ℕ → ℕ
@@ -52,7 +54,7 @@ fieldAt s i absent =
 unfoldable pub linkOf : Link → List ℕ → Link
 linkOf p s =
     let low = fieldAt s 0 (p .low) in
-    linkWith low (fieldAt s 1 (low + 1)) (fieldAt s 2 0) (fieldAt s 3 0)
+    record { low = low; high = fieldAt s 1 (low + 1); length = fieldAt s 2 0; pair = fieldAt s 3 0 }
 
 -- reading the record at the front of s, which stands at `at` in a book of `end` bytes, after the link p: 1, 5, 1, 9, 7, 6, 8
 unfoldable pub recordAnswer : ℕ → ℕ → Link → ℕ → List ℕ → Answer

@@ -2,24 +2,39 @@
 use mesh::Link;
 ghost use mathlib.Core.Path.{_≡_};
 ghost use mathlib.Core.Bool.{cond};
-ghost use Prim.Native.Nat.{_≤_, _<_};
-ghost use Rattle.codec.specs.Field.{differs, bitMap};
-ghost use Rattle.codec.specs.Record.{field, linkWith, fieldsOf, recordLength};
+ghost use Prim.Native.Nat.{_≤_};
+ghost use Rattle.codec.specs.Field.{field, differs, bitMap};
+ghost use Rattle.codec.specs.Record.{asLink, fieldsOf, longestRecord, recordLength};
 ghost use Rattle.scan.specs.Total.{bit};
 
-// The numbers of a record's fields. The high end can be 256, so the ends are wide.
+// How many bytes each field takes.
+pub(crate) const LOW: usize = 1;
+
+pub(crate) const HIGH: usize = 1;
+
+pub(crate) const LENGTH: usize = 2;
+
+pub(crate) const PAIR: usize = 4;
+
+// How many bytes the bit map and all fields take.
+pub(crate) const LONGEST_RECORD: usize = 1 + LOW + HIGH + LENGTH + PAIR;
+
+// The lowest number with a bit past that of the last field.
+const RESERVED: u8 = 16;
+
+// The fields of a link. An absent high end can be 256, so it is wider than a link's.
 pub(crate) struct Fields {
-    pub low: u32,
-    pub high: u32,
-    pub length: u32,
+    pub low: u8,
+    pub high: u16,
+    pub length: u16,
     pub pair: u32,
 }
 
-// Whether a bit of 4 to 7 stands in the bit map b.
+// Whether a reserved bit stands in the bit map b.
 pub(crate) fn reserved(b: u8) -> bool
     ensures { λ r. ⌜ r ≡ Rattle.codec.specs.Record.reserved b ⌝ }
 {
-    16 <= b
+    RESERVED <= b
 }
 
 // Whether the lowest bit of b stands.
@@ -29,27 +44,23 @@ pub(crate) fn odd(b: u8) -> bool
     b % 2 == 1
 }
 
-// How many bytes a field of w bytes takes, given whether its bit stands.
-pub(crate) fn taken(has: bool, w: usize) -> usize
-    ensures value { λ r. ⌜ r ≡ cond has w 0 ⌝ }
+// How many bytes a field of w bytes takes whose bit is the lowest of b.
+fn taken(b: u8, w: usize) -> usize
+    ensures value { λ r. ⌜ r ≡ cond (Rattle.codec.specs.Field.odd b) w 0 ⌝ }
     ensures within { λ r. ⌜ r ≤ w ⌝ }
 {
-    if has { w } else { 0 }
+    if odd(b) { w } else { 0 }
 }
 
 // The length of a record with the bit map b; 0 where a reserved bit stands.
 pub(crate) fn record_length(b: u8) -> usize
     ensures value { λ r. ⌜ r ≡ recordLength b ⌝ }
-    ensures within { λ r. ⌜ r ≤ 9 ⌝ }
+    ensures within { λ r. ⌜ r ≤ longestRecord ⌝ }
 {
     if reserved(b) {
         return 0;
     }
-    1
-        + taken(odd(b), 1)
-        + taken(odd(b / 2), 1)
-        + taken(odd(b / 2 / 2), 2)
-        + taken(odd(b / 2 / 2 / 2), 4)
+    1 + taken(b, LOW) + taken(b / 2, HIGH) + taken(b / 2 / 2, LENGTH) + taken(b / 2 / 2 / 2, PAIR)
 }
 
 // 1 where a field differs from its absent value, else 0.
@@ -62,13 +73,11 @@ fn flag(value: u32, absent: u32) -> u8
 
 // The bit map of these fields after the link prev.
 pub(crate) fn bit_map(prev: Link, f: Fields) -> u8
-    requires { ⌜ f .low < 256 ⌝ }
-    ensures value { λ r. ⌜ r ≡ bitMap (fieldsOf prev (linkWith (f .low) (f .high) (f .length) (f .pair))) ⌝ }
-    ensures within { λ r. ⌜ r < 16 ⌝ }
+    ensures { λ r. ⌜ r ≡ bitMap (fieldsOf prev (asLink f)) ⌝ }
 {
-    let low = flag(f.low, prev.low as u32);
-    let high = flag(f.high, f.low + 1);
-    let length = flag(f.length, 0);
+    let low = flag(f.low as u32, prev.low as u32);
+    let high = flag(f.high as u32, f.low as u32 + 1);
+    let length = flag(f.length as u32, 0);
     let pair = flag(f.pair, 0);
     low + 2 * (high + 2 * (length + 2 * pair))
 }

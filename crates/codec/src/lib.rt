@@ -12,11 +12,12 @@ mod record_reader;
 mod record_writer;
 mod writer;
 
+use layout::LONGEST_RECORD;
 use mesh::Answer;
 use mesh::Mesh;
 
 // The length of the longest book: an output of this length has room for any.
-const MOST_BYTES: usize = 2308;
+const MOST_BYTES: usize = 4 + 256 * LONGEST_RECORD;
 
 // What reading gives: the mesh, all zero on a refusal.
 pub struct Decoded {

@@ -1,24 +1,27 @@
 // Writing one record.
 use crate::layout::Fields;
+use crate::layout::HIGH;
+use crate::layout::LENGTH;
+use crate::layout::LOW;
+use crate::layout::PAIR;
 use crate::layout::bit_map;
 use crate::layout::record_length;
 use crate::number::put_bytes;
 use mesh::Link;
 ghost use mathlib.Core.Path.{_≡_};
-ghost use Prim.Native.Nat.{_+_, _≤_, _<_};
+ghost use Prim.Native.Nat.{_+_, _≤_};
 ghost use lib.ListN.{length};
 ghost use lib.Seq.{sets};
-ghost use Rattle.codec.specs.Field.{fieldBytes};
-ghost use Rattle.codec.specs.Record.{field, linkWith, recordOf};
+ghost use Rattle.codec.specs.Field.{field, fieldBytes};
+ghost use Rattle.codec.specs.Record.{asLink, longestRecord, recordOf};
 
 pub(crate) fn widened(l: Link) -> Fields
-    ensures value { λ r. ⌜ linkWith (r .low) (r .high) (r .length) (r .pair) ≡ l ⌝ }
-    ensures low { λ r. ⌜ r .low < 256 ⌝ }
+    ensures { λ r. ⌜ asLink r ≡ l ⌝ }
 {
     Fields {
-        low: l.low as u32,
-        high: l.high as u32,
-        length: l.length as u32,
+        low: l.low,
+        high: l.high as u16,
+        length: l.length,
         pair: l.pair,
     }
 }
@@ -26,7 +29,7 @@ pub(crate) fn widened(l: Link) -> Fields
 // The length of the record of l after prev.
 pub(crate) fn length_of(prev: Link, l: Link) -> usize
     ensures value { λ r. ⌜ r ≡ length (recordOf prev l) ⌝ }
-    ensures within { λ r. ⌜ r ≤ 9 ⌝ }
+    ensures within { λ r. ⌜ r ≤ longestRecord ⌝ }
 {
     record_length(bit_map(prev, widened(l)))
 }
@@ -49,10 +52,9 @@ pub(crate) fn put_record(out: &mut [u8], prev: Link, l: Link) -> usize
     ensures next { λ r. ⌜ r ≡ length (recordOf prev l) ⌝ }
     ensures stored { λ _. ⌜ now (out .exit) ≡ sets (now (out .entry)) 0 (recordOf prev l) ⌝ }
 {
-    let f = widened(l);
-    out[0] = bit_map(prev, f);
-    let a = put_field(out, 1, 1, f.low, prev.low as u32);
-    let b = put_field(out, a, 1, f.high, f.low + 1);
-    let c = put_field(out, b, 2, f.length, 0);
-    put_field(out, c, 4, f.pair, 0)
+    out[0] = bit_map(prev, widened(l));
+    let a = put_field(out, 1, LOW, l.low as u32, prev.low as u32);
+    let b = put_field(out, a, HIGH, l.high as u32, l.low as u32 + 1);
+    let c = put_field(out, b, LENGTH, l.length as u32, 0);
+    put_field(out, c, PAIR, l.pair, 0)
 }

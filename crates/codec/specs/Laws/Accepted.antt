@@ -1,4 +1,4 @@
--- What an accepted record, header and book have. Assumes nothing.
+-- What an accepted header and book have. Assumes nothing.
 use Prim.Native.Nat.{ℕ, suc, _+_, _≤_, _<_}
 use mathlib.Core.Path.{_≡_, refl, sym, _∙_}
 use mathlib.Core.Bool.{true, false, not}
@@ -11,26 +11,9 @@ use Rattle.mesh.specs.declared.Link.{Link}
 use Rattle.mesh.specs.declared.Answer.the-variants.{Accepted, Refused}
 use Rattle.mesh.specs.Mesh.{linkAnswer, nodesFit, countFits, zeroLink}
 use Rattle.mesh.specs.Laws.Answer.{must-accepted, andThen-accepted}
-use Rattle.codec.specs.Field.{needless}
-use Rattle.codec.specs.Record.{fieldsOf, reserved, recordLength, linkOf, recordAnswer}
+use Rattle.codec.specs.Record.{recordLength, linkOf, recordAnswer}
 use Rattle.codec.specs.Book.{decodedAs, knownVersion, headerAnswer, recordsAnswer, bookAnswer, meshOf, decoded}
-
--- the record at the front of s, after the link p, meets no refusal
-pub record GoodRecord (n : ℕ) (p : Link) (at : ℕ) (s : List ℕ) : Type 0 where
-  pub some : 0 < length s
-  pub unreserved : reserved (getD s 0 0) ≡ false
-  pub whole : recordLength (getD s 0 0) ≤ length s
-  pub needed : needless (getD s 0 0) (fieldsOf p (linkOf p s)) ≡ false
-  pub fits : linkAnswer n p (linkOf p s) at ≡ Accepted
-
-pub record-accepted : (n end : ℕ) (p : Link) (at : ℕ) (s : List ℕ) → recordAnswer n end p at s ≡ Accepted → GoodRecord n p at s
-unfolding recordAnswer
-record-accepted n end p at s e =
-    let (some, e1) = must-accepted (ltb 0 (length s)) _ _ _ e in
-    let (open′, e2) = must-accepted (not (reserved (getD s 0 0))) _ _ _ e1 in
-    let (whole, e3) = must-accepted (leb (recordLength (getD s 0 0)) (length s)) _ _ _ e2 in
-    let (needed, e4) = must-accepted (not (needless (getD s 0 0) (fieldsOf p (linkOf p s)))) _ _ _ e3 in
-    record { some = ltb-true _ _ some; unreserved = not-true _ open′; whole = leb-true _ _ whole; needed = not-true _ needed; fits = e4 }
+use Rattle.codec.specs.Laws.Record.{GoodRecord, record-accepted}
 
 -- the header of s meets no refusal
 pub record GoodHeader (s : List ℕ) : Type 0 where

@@ -1,4 +1,4 @@
--- Any list of fields: what was written is read, and what was read is written, by induction over the list. Also the length of a record. Assumes nothing.
+-- Any list of fields: what was written is read, and what was read is written, by induction over the list. Assumes nothing.
 use Prim.Native.Nat.{ℕ, zero, suc, _+_, _*_, _/_, _^_, _≤_, _<_}
 use mathlib.Core.Path.{_≡_, refl, sym, _∙_, ap}
 use mathlib.Core.List.{List, [], _∷_, _++_, map, append-assoc}
@@ -13,9 +13,7 @@ use Rattle.scan.specs.Bytes.{bytes, number, AreBytes, length-bytes, number-byte
 use Rattle.scan.specs.Total.{bit}
 use Rattle.scan.specs.Bits.{lowest-digit, by-lowest}
 use Rattle.scan.specs.Test.{branch, or-false}
-use Rattle.mesh.specs.declared.Link.{Link}
-use Rattle.codec.specs.Field.{Field, differs, fieldBytes, fieldsBytes, bitMap, odd, stands, extent, needless}
-use Rattle.codec.specs.Record.{field, widths, fieldsOf, recordOf, reserved, recordLength}
+use Rattle.codec.specs.Field.{Field, field, widthsOf, sum, differs, fieldBytes, fieldsBytes, bitMap, odd, bitsFrom, stands, extent, needless}
 
 -- ---- bits
 
@@ -30,10 +28,6 @@ bit-half : (b : ℕ) → bit (odd b) + 2 * (b / 2) ≡ b
 bit-half b = omega (arith, lowest-digit b)
 
 -- ---- lengths
-
--- the bytes of each field
-abbrev pub widthsOf : List Field → List ℕ
-widthsOf fs = map (λ (f : Field). f .width) fs
 
 length-field : (f : Field) → length (fieldBytes f) ≡ cond (differs f) (f .width) 0
 length-field f =
@@ -55,37 +49,35 @@ unfolding bitMap
 bitMap-below [] = omega arith
 bitMap-below (f ∷ fs) = omega (arith, pow-suc 2 (length fs), chosen-most (differs f) 1, bitMap-below fs)
 
-abbrev sum : List ℕ → ℕ
-sum [] = 0
-sum (w ∷ ws) = w + sum ws
-
-extent-most : (ws : List ℕ) (b : ℕ) → extent ws b ≤ sum ws
+-- the bytes of the fields that stand are at most those of all
+pub extent-most : (ws : List ℕ) (b : ℕ) → extent ws b ≤ sum ws
 extent-most [] b = omega arith
 extent-most (w ∷ ws) b = omega (arith, chosen-most (odd b) w, extent-most ws (b / 2))
 
 -- field i, after those before it whose bits stand, ends within the bytes of all
-field-most : (ws : List ℕ) (i b : ℕ) → extent (take i ws) b + getD ws i 0 ≤ sum ws
+pub field-most : (ws : List ℕ) (i b : ℕ) → extent (take i ws) b + getD ws i 0 ≤ sum ws
 field-most [] zero b = omega arith
 field-most [] (suc i) b = omega arith
 field-most (w ∷ ws) zero b = omega arith
 field-most (w ∷ ws) (suc i) b = omega (arith, chosen-most (odd b) w, field-most ws i (b / 2))
 
--- ---- the length of a record
+-- ---- field by field
 
-pub recordLength-most : (b : ℕ) → recordLength b ≤ 9
-unfolding recordLength
-recordLength-most b = branch (λ (v : ℕ). v ≤ 9) (reserved b) (λ e. omega arith) (λ e. omega (arith, extent-most widths b))
+pub bits-next : (b i : ℕ) → bitsFrom b (suc i) ≡ bitsFrom b i / 2
+bits-next b zero = refl
+bits-next b (suc i) = bits-next (b / 2) i
 
-pub field-within : (i b : ℕ) → 1 + extent (take i widths) b + getD widths i 0 ≤ 9
-field-within i b = omega (arith, field-most widths i b)
+-- field i starts after those before it whose bits stand
+pub extent-next : (ws : List ℕ) (i b : ℕ) → extent (take (suc i) ws) b ≡ extent (take i ws) b + cond (stands b i) (getD ws i 0) 0
+extent-next [] zero b = omega (arith, chosen-most (odd b) 0)
+extent-next [] (suc i) b = omega (arith, chosen-most (stands b (suc i)) 0)
+extent-next (w ∷ ws) zero b = omega arith
+extent-next (w ∷ ws) (suc i) b = omega (arith, extent-next ws i (b / 2))
 
--- no bit map that is written has a reserved bit
-pub map-unreserved : (p l : Link) → reserved (bitMap (fieldsOf p l)) ≡ false
-map-unreserved p l = lt-leb 16 _ (bitMap-below (fieldsOf p l))
-
-pub length-record : (p l : Link) → length (recordOf p l) ≡ recordLength (bitMap (fieldsOf p l))
-unfolding recordOf recordLength
-length-record p l = rw (map-unreserved p l, length-fields (fieldsOf p l)) (omega arith)
+pub extent-part : (ws : List ℕ) (i b : ℕ) → extent (take i ws) b ≤ extent ws b
+extent-part ws zero b = omega arith
+extent-part [] (suc i) b = omega arith
+extent-part (w ∷ ws) (suc i) b = omega (arith, extent-part ws i (b / 2))
 
 -- ---- writing and reading
 

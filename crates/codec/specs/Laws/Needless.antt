@@ -2,9 +2,9 @@
 -- value. So a reader may compare bit maps. Assumes nothing.
 use Prim.Native.Nat.{ℕ, suc, _+_, _*_, _/_, _%_, _^_, _<_}
 use mathlib.Core.Path.{_≡_, refl, sym, ap, _∙_}
-use mathlib.Core.Bool.{Bool, true, false, not, _&&_, _||_, Bool·not-not}
+use mathlib.Core.Bool.{Bool, true, false, cond, not, _&&_, _||_, Bool·not-not}
 use mathlib.Core.List.{List, [], _∷_}
-use native.Mathlib.Nat.{pow-suc}
+use native.Mathlib.Nat.{add-assoc, pow-suc}
 use native.Mathlib.Omega.{arith}
 use lib.Dec.{eqb}
 use lib.ListN.{length, getD}
@@ -12,8 +12,10 @@ use borrow.Author.Tests.{eqb-true, eqb-false, eq-eqb, ne-eqb, leb-false}
 use Rattle.scan.specs.Test.{clash, eq-says, says-same}
 use Rattle.scan.specs.Total.{bit}
 use Rattle.mesh.specs.declared.Link.{Link}
-use Rattle.codec.specs.Field.{Field, differs, bitMap, odd, stands, needless}
-use Rattle.codec.specs.Record.{field, fieldsOf, reserved, fieldAt, linkOf}
+use Rattle.codec.specs.Field.{Field, differs, bitMap, odd, needless}
+use Rattle.codec.specs.Record.{fieldsOf, reserved, linkOf}
+use Rattle.codec.specs.Laws.Fields.{AsRead}
+use Rattle.codec.specs.Laws.Record.{as-read}
 
 -- each field whose bit does not stand in b has its absent value
 abbrev pub AbsentElsewhere : ℕ → List Field → Type 0
@@ -45,16 +47,18 @@ needless-bitMap b (f ∷ fs) h (first, rest) =
     let k : 2 ^ suc (length fs) ≡ 2 ^ length fs * 2 = pow-suc 2 (length fs) in
     rw (needless-bitMap (b / 2) fs (omega arith) rest) (needless-step b (bitMap fs) (odd b) (differs f) refl first)
 
--- in a record that is read a field without its bit has its absent value
-absent-field : (s : List ℕ) (w i a : ℕ) → stands (getD s 0 0) i ≡ false → differs (field w (fieldAt s i a) a) ≡ false
-absent-field s w i a e = ap not (eq-eqb (fieldAt s i a) a (rw e))
-
-absent-elsewhere : (p : Link) (s : List ℕ) → AbsentElsewhere (getD s 0 0) (fieldsOf p (linkOf p s))
-unfolding linkOf
-absent-elsewhere p s = (absent-field s 1 0 _, (absent-field s 1 1 _, (absent-field s 2 2 _, (absent-field s 4 3 _, record {}))))
+-- a field that is read without its bit has its absent value
+pub absent-read : (fs : List Field) (s : List ℕ) (at b : ℕ) → AsRead s at b fs → AbsentElsewhere b fs
+absent-read [] s at b r = record {}
+absent-read (f ∷ fs) s at b r = (
+  λ e. ap not (eq-eqb (f .value) (f .absent) (sym (rw e at (r 0 (omega arith))))),
+  absent-read fs s (at + cond (odd b) (f .width) 0) (b / 2) (λ i l. rw add-assoc (r (suc i) (omega arith))),
+)
 
 -- so refusal 9 is a test of bit maps
 pub record-needed : (p : Link) (s : List ℕ) → reserved (getD s 0 0) ≡ false
     → not (needless (getD s 0 0) (fieldsOf p (linkOf p s))) ≡ eqb (bitMap (fieldsOf p (linkOf p s))) (getD s 0 0)
 record-needed p s e =
-    ap not (needless-bitMap (getD s 0 0) (fieldsOf p (linkOf p s)) (leb-false 16 (getD s 0 0) e) (absent-elsewhere p s)) ∙ Bool·not-not _
+    let b = getD s 0 0 in
+    let fs = fieldsOf p (linkOf p s) in
+    ap not (needless-bitMap b fs (leb-false _ b e) (absent-read fs s 1 b (as-read p s))) ∙ Bool·not-not _

@@ -17,7 +17,7 @@ use Rattle.mesh.specs.Mesh.{zeroLink, zeroMesh}
 use Rattle.codec.specs.declared.Decoded.{Decoded}
 use Rattle.codec.specs.Record.{recordLength, linkOf, recordAnswer}
 use Rattle.codec.specs.Book.{headerAnswer, recordsAnswer, linksOf, bookAnswer, meshOf, decoded}
-use Rattle.codec.specs.Laws.Accepted.{record-accepted}
+use Rattle.codec.specs.Laws.Record.{record-accepted}
 
 -- a turn's record is left, or none
 pub left-next : (k i : ℕ) → i < k → k - i ≡ suc (k - (i + 1))

@@ -26,12 +26,12 @@ pub record-some : (p l : Link) → 0 < length (recordOf p l)
 unfolding recordOf
 record-some p l = omega arith
 
--- the bit map b is stored, and the fields are left; the link h is l
-pub record-start : (out : List ℕ) (p : Link) {l h : Link} → h ≡ l → {b : ℕ} → b ≡ bitMap (fieldsOf p h) → length (recordOf p l) ≤ length out
-    → Storing out 0 (recordOf p l) (set out 0 b) 1 (fieldsBytes (fieldsOf p h))
+-- the bit map is stored, and the fields are left
+pub record-start : (out : List ℕ) (p l : Link) {b : ℕ} → b ≡ bitMap (fieldsOf p l) → length (recordOf p l) ≤ length out
+    → Storing out 0 (recordOf p l) (set out 0 b) 1 (fieldsBytes (fieldsOf p l))
 unfolding recordOf
-record-start out p {l} {h} e {b} q n =
-    rw (← e, q) (storing-next (storing-all out 0 (recordOf p h) (rw e (omega arith))) (bitMap (fieldsOf p h) ∷ []) (fieldsBytes (fieldsOf p h)) refl refl refl)
+record-start out p l q n =
+    rw q (storing-next (storing-all out 0 (recordOf p l) (omega arith)) (bitMap (fieldsOf p l) ∷ []) (fieldsBytes (fieldsOf p l)) refl refl refl)
 
 -- one field is stored
 module _ (f : Field) (fs : List Field) {out₀ all out : List ℕ} {start at : ℕ} (S : Storing out₀ start all out at (fieldsBytes (f ∷ fs))) where

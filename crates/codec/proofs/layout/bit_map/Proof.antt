@@ -8,14 +8,26 @@ use Rattle.codec.proofs.layout.bit_map.Tie as tie
 cast-flag : tie.Need-cast-flag
 cast-flag c = search needs
 
+cast-flag-2 : tie.Need-cast-flag-2
+cast-flag-2 c = search needs
+
 flag-requires : tie.Need-flag-requires
 flag-requires c κs = search needs
 
 add-flag : tie.Need-add-flag
 add-flag c = search needs
 
+cast-flag-3 : tie.Need-cast-flag-3
+cast-flag-3 c = search needs
+
+cast-flag-4 : tie.Need-cast-flag-4
+cast-flag-4 c = search needs
+
 flag-requires-2 : tie.Need-flag-requires-2
 flag-requires-2 c κs = search needs
+
+cast-flag-5 : tie.Need-cast-flag-5
+cast-flag-5 c = search needs
 
 flag-requires-3 : tie.Need-flag-requires-3
 flag-requires-3 c κs = search needs
@@ -50,9 +62,13 @@ bit-map-spec =
     tie.close
     (tie.spec
     cast-flag
+    cast-flag-2
     flag-requires
+    cast-flag-3
+    cast-flag-4
     add-flag
     flag-requires-2
+    cast-flag-5
     flag-requires-3
     flag-requires-4
     mul-result

@@ -3,15 +3,16 @@
 use borrow.Author.Needs.{needs}
 use native.Mathlib.Omega.{arith}
 use mathlib.Core.Path.{_≡_, refl, sym, _∙_, ap}
-use mathlib.Core.List.{List}
-use Prim.Native.Nat.{ℕ, _-_, _≤_}
+use Prim.Native.Nat.{_-_, _≤_}
 use denote.Ref.{now}
 use lib.ListN.{length, getD, drop}
+use Rattle.codec.specs.declared.record_reader.Record.{Record}
 use Rattle.codec.specs.Record.{recordLength, linkOf, recordAnswer}
+use Rattle.codec.specs.Book.{recordRead}
+use Rattle.codec.specs.Laws.ReadRecord.{read-answer, read-link, read-length}
 use Rattle.mesh.specs.declared.Answer.the-variants.{Accepted}
 use borrow.Author.Tests.{leb-true}
 use Rattle.scan.specs.Part.{part-rest}
-use Rattle.mesh.specs.Laws.Refused.{nodes-says}
 use Rattle.codec.specs.Laws.Accepted.{GoodHeader, header-accepted}
 use Rattle.codec.specs.Laws.Reading.{allRecords, Reading, reading-start, reading-refused, reading-within, reading-next, reading-extra, reading-done, reading-mesh, decoded-refused, decoded-done}
 use Rattle.codec.proofs.reader.read_records.Statement.{statement}
@@ -38,7 +39,8 @@ answered : (c : tie.After-read-record Inv-loop μ-loop)
 answered c =
     let lo = c .before .before .before .loop in
     let s = now (c .before .before .before .before .before .before .before .before .before .args .book) in
-    c .read-record .ensures .0 ∙ ap (recordAnswer (getD s 1 0) (length s) (lo .prev) (lo .at)) (part-rest s (lo .at))
+    ap (λ (r : Record). r .answer) (c .read-record .ensures)
+    ∙ (read-answer (getD s 1 0) (length s) (lo .prev) (lo .at) _ ∙ ap (recordAnswer (getD s 1 0) (length s) (lo .prev) (lo .at)) (part-rest s (lo .at)))
 
 -- an accepted record's link and length, likewise
 link-read : (c : tie.After-enum-told Inv-loop μ-loop)
@@ -47,12 +49,14 @@ link-read : (c : tie.After-enum-told Inv-loop μ-loop)
     (c .before .before .read-record .result .link ≡ linkOf (d .before .loop .prev) rest)
     × (c .before .before .read-record .result .length ≡ recordLength (getD rest 0 0))
 link-read c =
-    let d = c .before .before .before .before in
-    let s = now (d .before .before .before .before .before .before .before .args .book) in
-    let e = part-rest s (d .before .loop .at) in
-    let r = c .before .before .read-record .ensures .1 in
-    let told = c .enum-told .given .1 in
-    (r .0 told ∙ ap (linkOf (d .before .loop .prev)) e, r .1 told ∙ ap (λ (l : List ℕ). recordLength (getD l 0 0)) e)
+    let r = c .before .before in
+    let lo = r .before .before .before .loop in
+    let s = now (r .before .before .before .before .before .before .before .before .before .args .book) in
+    let e = r .read-record .ensures ∙ ap (recordRead (getD s 1 0) (length s) (lo .prev) (lo .at)) (part-rest s (lo .at)) in
+    let ok = sym (answered r) ∙ c .enum-told .given .1 in (
+      ap (λ (r : Record). r .link) e ∙ read-link (getD s 1 0) (length s) (lo .prev) (lo .at) (drop (lo .at) s) ok,
+      ap (λ (r : Record). r .length) e ∙ read-length (getD s 1 0) (length s) (lo .prev) (lo .at) (drop (lo .at) s) ok,
+    )
 
 shared-slice-read-nodes : tie.Need-shared-slice-read-nodes Inv-loop μ-loop
 shared-slice-read-nodes c = let h = good (c .before .before) .four in omega arith
@@ -88,9 +92,7 @@ part-read-record-end : tie.Need-part-read-record-end Inv-loop μ-loop
 part-read-record-end c = search needs
 
 read-record-requires : tie.Need-read-record-requires Inv-loop μ-loop
-read-record-requires c κs =
-    let a = c .before .before .before .before .before .before .before .before in
-    nodes-says (getD (now (a .args .book)) 1 0) .0 (good a .nodes) .1
+read-record-requires c κs = search needs
 
 enum-told : tie.Need-enum-told Inv-loop μ-loop
 enum-told c = search needs

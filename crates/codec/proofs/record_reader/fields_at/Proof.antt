@@ -1,133 +1,103 @@
--- `codec::record_reader::fields_at` meets its contract. Each field starts after the bytes that the fields before it take, so all of them lie
--- within the record's length, and each value is the one that `linkOf` names.
-use Prim.Native.Nat.{_+_, _≤_, _<_}
-use mathlib.Core.Bool.{cond}
+-- `codec::record_reader::fields_at` meets its contract. Before each field the cursor is the one that `Next` says, so the field lies within the record,
+-- and its value is the one that `linkOf` names.
+use Prim.Native.Nat.{ℕ, _+_, _<_}
+use mathlib.Core.Path.{_≡_}
+use mathlib.Core.List.{List}
 use mathlib.Core.Logic.{⊎-elim}
-use native.Mathlib.Nat.{add-zero, add-assoc}
 use native.Mathlib.Omega.{arith}
-use lib.ListN.{length}
+use denote.Ref.{now}
 use borrow.Author.Needs.{needs}
-use Rattle.codec.specs.Record.{recordLength, linkOf}
+use Rattle.mesh.specs.declared.Link.{Link}
+use Rattle.codec.specs.Record.{fieldAt, linkOf}
+use Rattle.codec.specs.Laws.Cursor.{Next, next-first, next-value, next-after, next-within}
 use Rattle.codec.proofs.record_reader.fields_at.Statement.{statement}
 use Rattle.codec.proofs.record_reader.fields_at.Tie as tie
 
--- the record's bytes are there
-within : (c : tie.After-taken3)
-    → 1 + c .before .before .taken .result + c .before .taken2 .result + c .taken3 .result + cond (c .before .before .before .odd4 .result) 4 0
-    ≤ length (c .before .before .before .before .before .before .before .before .before .args .s .now)
-unfolding recordLength
-within c =
-    let d = c .before .before .before in
-    let start = d .before .before .before .before .before .before in
-    let whole = rw (start .pre .1 .0) at (start .pre .1 .1) in
-    simp (
-      c .before .before .taken .ensures .0,
-      c .before .taken2 .ensures .0,
-      c .taken3 .ensures .0,
-      d .before .before .before .odd .ensures,
-      d .before .before .odd2 .ensures,
-      d .before .odd3 .ensures,
-      d .odd4 .ensures,
-    ) (omega arith)
+-- the start, from the place after each field
+abbrev start-1 : tie.After-next-field → tie.Start
+start-1 c = c .before .before .before .before
+
+abbrev start-2 : tie.After-next-field2 → tie.Start
+start-2 c = start-1 (c .before .before)
+
+abbrev start-3 : tie.After-next-field3 → tie.Start
+start-3 c = start-2 (c .before)
+
+abbrev bytes : tie.Start → List ℕ
+bytes c = now (c .args .s)
+
+-- the cursor after each field
+after-1 : (c : tie.After-next-field) → Next (bytes (start-1 c)) 1 (c .next-field .result .bits) (c .next-field .result .at)
+after-1 c = let e = c .next-field .ensures in next-after (next-first (bytes (start-1 c))) (e .0) (e .1 .0)
+
+after-2 : (c : tie.After-next-field2) → Next (bytes (start-2 c)) 2 (c .next-field2 .result .bits) (c .next-field2 .result .at)
+after-2 c = let e = c .next-field2 .ensures in next-after (after-1 (c .before .before)) (e .0) (e .1 .0)
+
+after-3 : (c : tie.After-next-field3) → Next (bytes (start-3 c)) 3 (c .next-field3 .result .bits) (c .next-field3 .result .at)
+after-3 c = let e = c .next-field3 .ensures in next-after (after-2 (c .before)) (e .0) (e .1 .0)
 
 -- a byte, or the low end of the link before
-low-is-byte : (c : tie.After-field-value) → c .field-value .result < 256
-low-is-byte c = ⊎-elim (λ h. h) (λ e. omega arith) (c .field-value .ensures .1)
+low-is-byte : (c : tie.After-next-field) → c .next-field .result .value < 256
+low-is-byte c = ⊎-elim (λ h. h) (λ e. omega arith) (c .next-field .ensures .1 .1 .1)
 
-shared-slice-read-b : tie.Need-shared-slice-read-b
-shared-slice-read-b c = search needs
+shared-slice-read-t9 : tie.Need-shared-slice-read-t9
+shared-slice-read-t9 c = search needs
 
-odd-requires : tie.Need-odd-requires
-odd-requires c κs = search needs
+cast-next-field : tie.Need-cast-next-field
+cast-next-field c = search needs
 
-odd-requires-2 : tie.Need-odd-requires-2
-odd-requires-2 c κs = search needs
+next-field-requires : tie.Need-next-field-requires
+next-field-requires c κs = let s = c .before .before .before in (omega arith, next-within (next-first (bytes s)) (s .pre .1 .0) (s .pre .1 .1))
 
-odd-requires-3 : tie.Need-odd-requires-3
-odd-requires-3 c κs = search needs
+add-next-field : tie.Need-add-next-field
+add-next-field c = omega (arith, low-is-byte (c .before))
 
-odd-requires-4 : tie.Need-odd-requires-4
-odd-requires-4 c κs = search needs
+next-field-requires-2 : tie.Need-next-field-requires-2
+next-field-requires-2 c κs = let s = start-1 (c .before) in (omega arith, next-within (after-1 (c .before)) (s .pre .1 .0) (s .pre .1 .1))
 
-taken-requires : tie.Need-taken-requires
-taken-requires c κs = search needs
+next-field-requires-3 : tie.Need-next-field-requires-3
+next-field-requires-3 c κs = let s = start-2 c in (omega arith, next-within (after-2 c) (s .pre .1 .0) (s .pre .1 .1))
 
-add-at-high : tie.Need-add-at-high
-add-at-high c = search needs
+next-field-requires-4 : tie.Need-next-field-requires-4
+next-field-requires-4 c κs = let s = start-3 c in (omega arith, next-within (after-3 c) (s .pre .1 .0) (s .pre .1 .1))
 
-taken-requires-2 : tie.Need-taken-requires-2
-taken-requires-2 c κs = search needs
+cast-t9 : tie.Need-cast-t9
+cast-t9 c = omega (arith, low-is-byte (c .before .before .before .before .before))
 
-add-at-length : tie.Need-add-at-length
-add-at-length c = search needs
+cast-t11 : tie.Need-cast-t11
+cast-t11 c =
+    let h = c .before .before .before .before in
+    ⊎-elim (λ b. omega arith) (λ e. omega (arith, low-is-byte (h .before .before))) (h .next-field2 .ensures .1 .1 .1)
 
-taken-requires-3 : tie.Need-taken-requires-3
-taken-requires-3 c κs = search needs
-
-add-at-pair : tie.Need-add-at-pair
-add-at-pair c = search needs
-
-cast-field-value : tie.Need-cast-field-value
-cast-field-value c = search needs
-
-field-value-requires : tie.Need-field-value-requires
-field-value-requires c κs = omega (arith, within (c .before))
-
-add-field-value : tie.Need-add-field-value
-add-field-value c = omega (arith, low-is-byte c)
-
-field-value-requires-2 : tie.Need-field-value-requires-2
-field-value-requires-2 c κs = omega (arith, within (c .before .before))
-
-field-value-requires-3 : tie.Need-field-value-requires-3
-field-value-requires-3 c κs = omega (arith, within (c .before .before .before))
-
-field-value-requires-4 : tie.Need-field-value-requires-4
-field-value-requires-4 c κs = omega (arith, within (c .before .before .before .before))
+cast-t12 : tie.Need-cast-t12
+cast-t12 c = ⊎-elim (λ b. omega arith) (λ e. omega arith) (c .before .before .before .before .next-field3 .ensures .1 .1 .1)
 
 returns : tie.Need-returns
 unfolding linkOf
 returns c =
-    let f = c .before in
-    let t = f .before .before .before .before in
-    let d = t .before .before .before in (
-      simp (
-        f .before .before .field-value .ensures .0,
-        f .before .field-value2 .ensures .0,
-        f .field-value3 .ensures .0,
-        c .field-value4 .ensures .0,
-        t .before .before .taken .ensures .0,
-        t .before .taken2 .ensures .0,
-        t .taken3 .ensures .0,
-        d .before .before .before .odd .ensures,
-        d .before .before .odd2 .ensures,
-        d .before .odd3 .ensures,
-        d .odd4 .ensures,
-        add-zero,
-        add-assoc,
-      ),
-      (low-is-byte (f .before .before), ⊎-elim (λ h. h) (λ e. omega arith) (f .field-value3 .ensures .1)),
+    let f4 = c .before .before .before in
+    let f3 = f4 .before in
+    let f2 = f3 .before in
+    let f1 = f2 .before .before in
+    simp (
+      next-value (next-first (bytes (start-1 f1))) _ (f1 .next-field .ensures .1 .1 .0),
+      next-value (after-1 f1) _ (f2 .next-field2 .ensures .1 .1 .0),
+      next-value (after-2 f2) _ (f3 .next-field3 .ensures .1 .1 .0),
+      next-value (after-3 f3) _ (f4 .next-field4 .ensures .1 .1 .0),
     )
 
 pub fields-at-spec : {M : Type 1} → statement M
 fields-at-spec =
     tie.close
     (tie.spec
-    shared-slice-read-b
-    odd-requires
-    odd-requires-2
-    odd-requires-3
-    odd-requires-4
-    taken-requires
-    add-at-high
-    taken-requires-2
-    add-at-length
-    taken-requires-3
-    add-at-pair
-    cast-field-value
-    field-value-requires
-    add-field-value
-    field-value-requires-2
-    field-value-requires-3
-    field-value-requires-4
+    shared-slice-read-t9
+    cast-next-field
+    next-field-requires
+    add-next-field
+    next-field-requires-2
+    next-field-requires-3
+    next-field-requires-4
+    cast-t9
+    cast-t11
+    cast-t12
     returns)

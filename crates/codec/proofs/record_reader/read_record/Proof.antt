@@ -9,21 +9,14 @@ use lib.ListN.{length, getD}
 use borrow.Author.Needs.{needs}
 use borrow.Author.Tests.{lt-ltb, le-ltb, le-leb, lt-leb, eq-eqb, ne-eqb}
 use Rattle.mesh.specs.declared.Link.{Link}
-use Rattle.mesh.specs.declared.Answer.{Answer}
-use Rattle.mesh.specs.declared.Answer.the-variants.{Accepted, Refused}
 use Rattle.mesh.specs.Mesh.{must, linkAnswer}
-use Rattle.mesh.specs.Laws.Answer.{refused-accepted}
 use Rattle.mesh.specs.Laws.Ends.{ends-accepted}
 use Rattle.codec.specs.Field.{bitMap}
 use Rattle.codec.specs.Record.{fieldsOf, linkOf, reserved, recordLength, recordAnswer}
 use Rattle.codec.specs.Laws.Needless.{record-needed}
+use Rattle.codec.specs.Laws.ReadRecord.{read-refused, read-accepted}
 use Rattle.codec.proofs.record_reader.read_record.Statement.{statement}
 use Rattle.codec.proofs.record_reader.read_record.Tie as tie
-
--- a refusal promises neither link nor length
-refusal : {r a : Answer} {number place : ℕ} {A B : Type 0} → r ≡ Refused number place → a ≡ Refused number place
-    → (r ≡ a) × ((r ≡ Accepted → A) × (r ≡ Accepted → B))
-refusal e f = (e ∙ sym f, (λ g. refused-accepted (sym e ∙ g), λ g. refused-accepted (sym e ∙ g)))
 
 -- no reserved bit stands
 unreserved : (c : tie.Else2) → reserved (getD (c .before .before .before .before .before .args .s .now) 0 0) ≡ false
@@ -53,7 +46,7 @@ read-map : (c : tie.After-bit-map)
     c .bit-map .result ≡ bitMap (fieldsOf (a .prev) (linkOf (a .prev) (a .s .now)))
 read-map c =
     let p = c .before .before .before .before .before .before .before .before .before .args .prev in
-    c .bit-map .ensures .0 ∙ ap (λ (l : Link). bitMap (fieldsOf p l)) (c .before .fields-at .ensures .0)
+    c .bit-map .ensures ∙ ap (λ (l : Link). bitMap (fieldsOf p l)) (c .before .fields-at .ensures)
 
 -- no field is needless, so the ends decide
 ends-decide : (c : tie.After-ends-answer)
@@ -65,14 +58,14 @@ ends-decide c =
     let a = w .before .before .before .before .before .before .before .args in
     whole w
     ∙ rw (eq-eqb _ (getD (a .s .now) 0 0) (sym (read-map (d .before)) ∙ d .if4 .left))
-    (sym (c .ends-answer .ensures ∙ ap (λ (l : Link). linkAnswer (a .nodes) (a .prev) l (a .at)) (d .before .before .fields-at .ensures .0)))
+    (sym (c .ends-answer .ensures ∙ ap (λ (l : Link). linkAnswer (a .nodes) (a .prev) l (a .at)) (d .before .before .fields-at .ensures)))
 
 refused-requires : tie.Need-refused-requires
 refused-requires c κs = search needs
 
 returns : tie.Need-returns
 unfolding recordAnswer
-returns c = refusal (c .refused .ensures) (rw (le-ltb 0 (length (c .before .before .before .args .s .now)) (omega arith)))
+returns c = read-refused _ _ _ _ _ (c .refused .ensures) (rw (le-ltb 0 (length (c .before .before .before .args .s .now)) (omega arith)))
 
 shared-slice-read-b : tie.Need-shared-slice-read-b
 shared-slice-read-b c = search needs
@@ -87,7 +80,7 @@ returns-2 : tie.Need-returns-2
 unfolding recordAnswer
 returns-2 c =
     let s = c .before .before .before .before .before .before .args .s .now in
-    refusal (c .refused2 .ensures) (simp (lt-ltb 0 (length s) (omega arith), sym (c .before .before .reserved .ensures) ∙ c .before .if2 .taken))
+    read-refused _ _ _ _ _ (c .refused2 .ensures) (simp (lt-ltb 0 (length s) (omega arith), sym (c .before .before .reserved .ensures) ∙ c .before .if2 .taken))
 
 record-length-requires : tie.Need-record-length-requires
 record-length-requires c κs = search needs
@@ -100,7 +93,7 @@ unfolding recordAnswer
 returns-3 c =
     let d = c .before .before .before in
     let s = d .before .before .before .before .before .args .s .now in
-    refusal (c .refused3 .ensures)
+    read-refused _ _ _ _ _ (c .refused3 .ensures)
     (simp (lt-ltb 0 (length s) (omega arith), unreserved d, lt-leb (recordLength (getD s 0 0)) (length s) (omega arith)))
 
 fields-at-requires : tie.Need-fields-at-requires
@@ -117,7 +110,7 @@ returns-4 c =
     let d = c .before .before in
     let w = d .before .before in
     let s = w .before .before .before .before .before .before .before .args .s .now in
-    refusal (c .refused4 .ensures) (whole w ∙ rw (ne-eqb _ (getD s 0 0) (λ e. c .before .if4 .taken (read-map d ∙ e))))
+    read-refused _ _ _ _ _ (c .refused4 .ensures) (whole w ∙ rw (ne-eqb _ (getD s 0 0) (λ e. c .before .if4 .taken (read-map d ∙ e))))
 
 cast-ends-answer : tie.Need-cast-ends-answer
 cast-ends-answer c = search needs
@@ -139,23 +132,21 @@ accepted-requires c κs =
     let e = c .before .before in
     let w = e .before .before .before .before .before in
     let start = w .before .before .before .before .before .before .before .before in
-    let f = w .fields-at in
-    let (apart, inside, after) = ends-accepted _ _ _ (f .result .low) (f .result .high) _ .0 (sym (e .ends-answer .ensures) ∙ c .enum-told .given .1) in
-    (omega (arith, start .pre), (omega (arith, start .pre), f .ensures .1 .1))
+    let f = w .fields-at .result in
+    let (apart, inside, after) = ends-accepted _ _ _ (f .low) (f .high) _ .0 (sym (e .ends-answer .ensures) ∙ c .enum-told .given .1) in
+    omega (arith, start .good)
 
 returns-5 : tie.Need-returns-5
 returns-5 c =
     let e = c .before .before .before in
-    let w = e .before .before .before .before .before in (
-      c .accepted .ensures .0 ∙ sym (ends-decide e ∙ c .before .enum-told .given .1),
-      (λ _. c .accepted .ensures .1 .0 ∙ w .fields-at .ensures .0, λ _. c .accepted .ensures .1 .1 ∙ w .before .before .record-length .ensures .0),
-    )
+    let w = e .before .before .before .before .before in
+    read-accepted _ _ _ _ _ (c .accepted .ensures) (ends-decide e ∙ c .before .enum-told .given .1) (w .fields-at .ensures) (w .before .before .record-length .ensures .0)
 
 refused-requires-5 : tie.Need-refused-requires-5
 refused-requires-5 c κs = search needs
 
 returns-6 : tie.Need-returns-6
-returns-6 c = refusal (c .refused5 .ensures) (ends-decide (c .before .before .before .before) ∙ c .before .before .a .given .1)
+returns-6 c = read-refused _ _ _ _ _ (c .refused5 .ensures) (ends-decide (c .before .before .before .before) ∙ c .before .before .a .given .1)
 
 pub read-record-spec : {M : Type 1} → statement M
 read-record-spec =

@@ -1,5 +1,5 @@
 -- `codec::record_writer::length_of` meets its contract: the length of a record is that which its bit map says.
-use Rattle.codec.specs.Laws.Fields.{length-record}
+use Rattle.codec.specs.Laws.Record.{length-record}
 use borrow.Author.Needs.{needs}
 use Rattle.codec.proofs.record_writer.length_of.Statement.{statement}
 use Rattle.codec.proofs.record_writer.length_of.Tie as tie
@@ -16,7 +16,7 @@ record-length-requires c κs = search needs
 returns : tie.Need-returns
 returns c =
     let b = c .before in
-    (rw (← b .before .widened .ensures .0, length-record, ← b .bit-map .ensures .0) (c .record-length .ensures .0), c .record-length .ensures .1)
+    (rw (← b .before .widened .ensures, length-record, ← b .bit-map .ensures) (c .record-length .ensures .0), c .record-length .ensures .1)
 
 pub length-of-spec : {M : Type 1} → statement M
 length-of-spec =

@@ -5,13 +5,14 @@ use mathlib.Core.Path.{_≡_, sym, ap}
 use Prim.Native.Nat.{_+_, _-_, _*_, _≤_}
 use lib.ListN.{length, take, drop}
 use Rattle.scan.specs.Part.{length-mapped}
+use Rattle.codec.specs.Record.{longestRecord}
 use Rattle.codec.specs.Book.{recordsOf, bookOf}
 use Rattle.codec.specs.Laws.Writing.{records-end, length-records-next, length-book}
 use Rattle.codec.proofs.writer.book_length.Statement.{statement}
 use Rattle.codec.proofs.writer.book_length.Tie as tie
 
 abbrev Inv-loop : tie.InvT-loop
-Inv-loop m k prev₀ n₀ i₀ prev n i = (i ≤ k) × ((n ≤ 4 + 9 * i) × (n + length (recordsOf prev (drop i (take k (m .links)))) ≡ length (bookOf m)))
+Inv-loop m k prev₀ n₀ i₀ prev n i = (i ≤ k) × ((n ≤ 4 + longestRecord * i) × (n + length (recordsOf prev (drop i (take k (m .links)))) ≡ length (bookOf m)))
 
 abbrev μ-loop : tie.MeasureT-loop
 μ-loop m k prev₀ n₀ i₀ prev n i = k - i
@@ -48,7 +49,7 @@ loop-again c =
     let b = c .before .before .before in
     let a = b .before .before .args .t1 in
     let lo = b .loop in
-    let sized : length (a .links) ≡ 256 = search length-mapped in
+    let sized : length (a .links) ≡ 256 = length-mapped _ (a .links) 256 (b .before .before .good .0 .1 .1 .1 .1 .0 .1 .0 .1) in
     (omega arith, (omega arith, omega (arith, lo .inv .1 .1, length-records-next (lo .prev) (a .links) (a .count) (lo .i) (omega arith) (omega arith))))
 
 returns : tie.Need-returns Inv-loop μ-loop
