@@ -15,7 +15,7 @@ use Rattle.mesh.specs.WellFormed.{WellFormed, InRange, link}
 use Rattle.mesh.specs.Refusal.{Refusal, previous}
 use Rattle.mesh.specs.Laws.Checked.{checks}
 use Rattle.mesh.specs.Laws.Refused.{refused-only}
-use Rattle.codec.specs.Record.{recordOf}
+use Rattle.fields.specs.Record.{recordOf}
 use Rattle.codec.specs.Book.{longestBook, bookOf, encoded, outputAfter, decoded, spanAnswer, recordPart}
 use Rattle.codec.specs.Laws.Written.{decoded-output, book-most}
 use Rattle.codec.specs.Laws.Read.{decoded-accepted, decoded-in-range, output-decoded, one-book, accepted-most}

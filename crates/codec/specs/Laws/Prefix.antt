@@ -13,10 +13,10 @@ use Rattle.mesh.specs.declared.Link.{Link}
 use Rattle.mesh.specs.declared.Answer.{Answer}
 use Rattle.mesh.specs.declared.Answer.the-variants.{Accepted, Refused}
 use Rattle.mesh.specs.Mesh.{zeroLink}
-use Rattle.codec.specs.Record.{longestRecord, recordLength, linkOf}
+use Rattle.fields.specs.Record.{longestRecord, recordLength, linkOf}
 use Rattle.codec.specs.Book.{longestBook, headerAnswer, recordsAnswer, linksOf, bookAnswer, meshOf, decoded}
-use Rattle.codec.specs.Laws.Accepted.{header-accepted}
-use Rattle.codec.specs.Laws.Record.{recordLength-most, map-append, link-append, record-append}
+use Rattle.reader.specs.Laws.Header.{header-accepted}
+use Rattle.fields.specs.Laws.Record.{recordLength-most, map-append, link-append, record-append}
 
 -- ---- the records of a book
 

@@ -21,12 +21,13 @@ use Rattle.mesh.specs.WellFormed.{LinkInRange, InRange}
 use Rattle.mesh.specs.Laws.Answer.{must-accepted}
 use Rattle.mesh.specs.Laws.Refused.{nodes-says}
 use Rattle.codec.specs.declared.Decoded.{Decoded}
-use Rattle.codec.specs.Record.{recordLength, linkOf}
+use Rattle.fields.specs.Record.{recordLength, linkOf}
 use Rattle.codec.specs.Book.{longestBook, version, recordsOf, bookOf, encodeAnswer, encoded, outputAfter, recordsAnswer, linksOf, bookAnswer, meshOf, decoded}
-use Rattle.codec.specs.Laws.Accepted.{GoodHeader, records-accepted, book-accepted, decoded-mesh}
+use Rattle.codec.specs.Laws.Accepted.{records-accepted, book-accepted, decoded-mesh}
+use Rattle.reader.specs.Laws.Header.{GoodHeader}
 use Rattle.mesh.specs.Laws.Zeros.{all-zero}
 use Rattle.mesh.specs.Laws.GoodMesh.{link-anywhere, GoodMesh, accepted-mesh}
-use Rattle.codec.specs.Laws.Record.{record-read, link-in-range, zero-in-range}
+use Rattle.fields.specs.Laws.Record.{record-read, link-in-range, zero-in-range}
 use Rattle.codec.specs.Laws.Written.{decoded-book, book-most}
 
 -- ---- the records of a book

@@ -15,9 +15,9 @@ use Rattle.mesh.specs.Mesh.{zeroLink, meshAnswer}
 use Rattle.mesh.specs.WellFormed.{InRange, link}
 use Rattle.mesh.specs.Refusal.{previous}
 use Rattle.mesh.specs.Laws.GoodMesh.{GoodMesh, mesh-accepted}
-use Rattle.codec.specs.Record.{recordOf, recordLength}
+use Rattle.fields.specs.Record.{recordOf, recordLength}
 use Rattle.codec.specs.Book.{recordsOf, bookOf, recordStart, spanAnswer, spanOf, recordPart}
-use Rattle.codec.specs.Laws.Record.{record-taken, record-dropped}
+use Rattle.fields.specs.Laws.Record.{record-taken, record-dropped}
 use Rattle.codec.specs.Laws.Locate.{span-some}
 use Rattle.codec.specs.Laws.Written.{count-most, count-written, book-written}
 

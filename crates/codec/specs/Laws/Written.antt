@@ -15,12 +15,13 @@ use Rattle.mesh.specs.Mesh.{zeroLink, linkAnswer, linksAnswer, meshAnswer}
 use Rattle.mesh.specs.WellFormed.{LinkInRange, InRange}
 use Rattle.mesh.specs.Laws.Answer.{andThen-accepted}
 use Rattle.mesh.specs.Laws.Checked.{passes}
-use Rattle.codec.specs.Record.{longestRecord, recordOf, recordLength}
+use Rattle.fields.specs.Record.{recordOf, recordLength}
 use Rattle.codec.specs.Book.{longestBook, encodedAs, recordsOf, bookOf, encodeAnswer, encoded, outputAfter}
 use Rattle.codec.specs.Book.{recordsAnswer, linksOf, headerAnswer, bookAnswer, meshOf, decoded}
 use Rattle.mesh.specs.Laws.Zeros.{zero-links}
 use Rattle.mesh.specs.Laws.GoodMesh.{link-anywhere, GoodMesh, mesh-accepted}
-use Rattle.codec.specs.Laws.Record.{record-most, link-written, record-written, record-dropped}
+use Rattle.writer.specs.Laws.Length.{book-within}
+use Rattle.fields.specs.Laws.Record.{link-written, record-written, record-dropped}
 
 -- ---- the records of a list of links
 
@@ -91,14 +92,6 @@ decoded-output m out r e =
 
 -- ---- the length of a book
 
-records-most : (p : Link) (ls : List Link) → length (recordsOf p ls) ≤ longestRecord * length ls
-unfolding recordsOf
-records-most p [] = omega arith
-records-most p (l ∷ ls) = rw (length-append (recordOf p l) (recordsOf l ls)) (omega (arith, record-most p l, records-most l ls))
-
 -- a book of a mesh that passes the checks is at most as long as the longest
 pub book-most : (m : Mesh) → meshAnswer m ≡ Accepted → length (bookOf m) ≤ longestBook
-unfolding bookOf
-book-most m e =
-    let h = passes m e .count-most in
-    omega (arith, records-most zeroLink (take (m .count) (m .links)), length-take (m .count) (m .links))
+book-most m e = book-within m (passes m e .count-most)
