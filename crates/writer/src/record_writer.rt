@@ -46,15 +46,16 @@ fn put_field(out: &mut [u8], at: usize, w: usize, value: u32, absent: u32) -> us
     put_bytes(out, at, w, value)
 }
 
-// Stores the record of l after prev at the front of out, and answers its length.
+// Stores the record of l after prev at the front of out, its fields and then its bit map, and answers its length.
 pub(crate) fn put_record(out: &mut [u8], prev: Link, l: Link) -> usize
     requires { ⌜ length (recordOf prev l) ≤ length (now out) ⌝ }
     ensures next { λ r. ⌜ r ≡ length (recordOf prev l) ⌝ }
     ensures stored { λ _. ⌜ now (out .exit) ≡ sets (now (out .entry)) 0 (recordOf prev l) ⌝ }
 {
-    out[0] = bit_map(prev, widened(l));
     let a = put_field(out, 1, LOW, l.low as u32, prev.low as u32);
     let b = put_field(out, a, HIGH, l.high as u32, l.low as u32 + 1);
     let c = put_field(out, b, LENGTH, l.length as u32, 0);
-    put_field(out, c, PAIR, l.pair, 0)
+    let end = put_field(out, c, PAIR, l.pair, 0);
+    out[0] = bit_map(prev, widened(l));
+    end
 }

@@ -1,10 +1,10 @@
 -- One turn and the end of each of the writer's runs of stores: the fields of a record, and the records of a mesh. Assumes nothing.
-use Prim.Native.Nat.{ℕ, _+_, _-_, _≤_, _<_}
+use Prim.Native.Nat.{ℕ, suc, _+_, _-_, _≤_, _<_}
 use mathlib.Core.Path.{_≡_, refl, _∙_, ap}
 use mathlib.Core.List.{List, [], _∷_, _++_}
 use native.Mathlib.Omega.{arith}
 use lib.ListN.{length, getD, take, drop, set, length-append}
-use lib.Seq.{sets}
+use lib.Seq.{sets, set-comm}
 use Rattle.scan.specs.Part.{drop-take, drop-take-end}
 use Rattle.scan.specs.Store.{sets-lent}
 use Rattle.mesh.specs.declared.Link.{Link}
@@ -12,21 +12,15 @@ use Rattle.mesh.specs.Mesh.{zeroLink}
 use Rattle.fields.specs.Field.{Field, fieldBytes, fieldsBytes, bitMap}
 use Rattle.fields.specs.Record.{fieldsOf, recordOf}
 use Rattle.writer.specs.Written.{recordsOf}
-use Rattle.scan.specs.Storing.{Storing, storing-all, storing-room, storing-next}
+use Rattle.scan.specs.Storing.{Storing, storing-all, storing-room, storing-next, storing-end}
 
 -- ---- the fields of a record
 
--- a record has its bit map at least
-pub record-some : (p l : Link) → 0 < length (recordOf p l)
+-- the fields are left to store, after the bit map's byte
+pub fields-start : (out : List ℕ) (p l : Link) → length (recordOf p l) ≤ length out
+    → (0 < length out) × Storing out 1 (fieldsBytes (fieldsOf p l)) out 1 (fieldsBytes (fieldsOf p l))
 unfolding recordOf
-record-some p l = omega arith
-
--- the bit map is stored, and the fields are left
-pub record-start : (out : List ℕ) (p l : Link) {b : ℕ} → b ≡ bitMap (fieldsOf p l) → length (recordOf p l) ≤ length out
-    → Storing out 0 (recordOf p l) (set out 0 b) 1 (fieldsBytes (fieldsOf p l))
-unfolding recordOf
-record-start out p l q n =
-    rw q (storing-next (storing-all out 0 (recordOf p l) (omega arith)) (bitMap (fieldsOf p l) ∷ []) (fieldsBytes (fieldsOf p l)) refl refl refl)
+fields-start out p l h = (omega arith, storing-all out 1 (fieldsBytes (fieldsOf p l)) (omega arith))
 
 -- one field is stored
 module _ (f : Field) (fs : List Field) {out₀ all out : List ℕ} {start at : ℕ} (S : Storing out₀ start all out at (fieldsBytes (f ∷ fs))) where
@@ -38,6 +32,22 @@ module _ (f : Field) (fs : List Field) {out₀ all out : List ℕ} {start at : �
       → Storing out₀ start all out′ at′ (fieldsBytes fs)
   unfolding fieldsBytes
   field-next o a = storing-next S (fieldBytes f) (fieldsBytes fs) refl o a
+
+-- a store before a run of stores
+set-sets : (l : List ℕ) (i j v : ℕ) (vs : List ℕ) → j < i → set (sets l i vs) j v ≡ sets (set l j v) i vs
+set-sets l i j v [] h = refl
+set-sets l i j v (x ∷ vs) h =
+    set-sets (set l i x) (suc i) j v vs (omega arith) ∙ ap (λ (r : List ℕ). sets r (suc i) vs) (set-comm l i j x v (λ e. omega arith))
+
+-- the fields are stored, and then the bit map
+module _ (p l : Link) {out₀ out : List ℕ} {at : ℕ} (S : Storing out₀ 1 (fieldsBytes (fieldsOf p l)) out at (fieldsBytes [])) where
+  pub fields-end : at ≡ length (recordOf p l)
+  unfolding recordOf fieldsBytes
+  fields-end = omega (arith, S .ends)
+
+  pub record-stored : {b : ℕ} → b ≡ bitMap (fieldsOf p l) → set out 0 b ≡ sets out₀ 0 (recordOf p l)
+  unfolding recordOf fieldsBytes
+  record-stored q = rw (q, storing-end S refl) (set-sets out₀ 1 0 (bitMap (fieldsOf p l)) (fieldsBytes (fieldsOf p l)) (omega arith))
 
 -- ---- the records of a mesh
 
