@@ -1,37 +1,24 @@
 -- The book: what a mesh is written as, what reading gives, and the bytes of one record (01, "The book" and "Order"). Definitions only.
 use Prim.Native.Nat.{ℕ, zero, suc, _+_, _-_}
 use mathlib.Core.List.{List, [], _∷_, _++_}
-use mathlib.Core.Bool.{Bool}
 use lib.ListN.{length, getD, take, drop, replicate}
 use lib.Dec.{ltb, leb, eqb}
-use Rattle.scan.specs.Bytes.{bytes, number}
+use Rattle.scan.specs.Bytes.{number}
 use Rattle.mesh.specs.declared.Link.{Link}
 use Rattle.mesh.specs.declared.Mesh.{Mesh}
 use Rattle.mesh.specs.declared.Answer.{Answer}
 use Rattle.mesh.specs.declared.Answer.the-variants.{Accepted, Refused}
-use Rattle.mesh.specs.Mesh.{must, andThen, zeroLink, zeroMesh, nodesFit, countFits, meshAnswer}
+use Rattle.mesh.specs.Mesh.{must, andThen, zeroLink, zeroMesh, meshAnswer}
 use Rattle.codec.specs.declared.Decoded.{Decoded}
 use Rattle.codec.specs.declared.Encoded.{Encoded}
 use Rattle.codec.specs.declared.locate.Span.{Span}
-use Rattle.codec.specs.Record.{recordOf, recordLength, linkOf, recordAnswer}
+use Rattle.fields.specs.Record.{recordLength, linkOf, recordAnswer}
+-- what a mesh is written as, and the header
+pub use Rattle.writer.specs.Written.{version, longestBook}
+unfoldable pub use Rattle.writer.specs.Written.{recordsOf, bookOf}
+unfoldable pub use Rattle.reader.specs.Read.{headerAnswer}
 
 -- ---- writing
-
--- the version byte that is written, and those that are read
-abbrev pub version : ℕ
-version = 1
-
-abbrev pub knownVersion : ℕ → Bool
-knownVersion b = eqb b version
-
--- the records of the links in turn after the link p
-unfoldable pub recordsOf : Link → List Link → List ℕ
-recordsOf p [] = []
-recordsOf p (l ∷ ls) = recordOf p l ++ recordsOf l ls
-
--- the book of a mesh: version, N, L in two bytes, then L records
-unfoldable pub bookOf : Mesh → List ℕ
-bookOf m = version ∷ (m .nodes ∷ (bytes 2 (m .count) ++ recordsOf zeroLink (take (m .count) (m .links))))
 
 -- writing m to an output of `room` bytes: the mesh checks, then 11
 unfoldable pub encodeAnswer : Mesh → ℕ → Answer
@@ -57,15 +44,6 @@ unfoldable pub outputAfter : Mesh → List ℕ → List ℕ
 outputAfter m out = outputAs (encodeAnswer m (length out)) (bookOf m) out
 
 -- ---- reading
-
--- the header of the book s: 1 (under 4 bytes), 2, 3, 4
-unfoldable pub headerAnswer : List ℕ → Answer
-headerAnswer s =
-    must (leb 4 (length s)) 1 (length s)
-    (must (knownVersion (getD s 0 0)) 2 0
-    (must (nodesFit (getD s 1 0)) 3 1
-    (must (countFits (number 2 s 2)) 4 2
-    Accepted)))
 
 -- k records at the front of s, which stands at `at` in a book of `end` bytes, after the link p; then 10
 unfoldable pub recordsAnswer : ℕ → ℕ → Link → ℕ → ℕ → List ℕ → Answer

@@ -1,10 +1,8 @@
 pub mod Accepted
 pub mod Reading
 pub mod Locate
-pub mod Fields
 pub mod Written
-pub mod Shown
+pub mod Encoding
 pub mod Read
-pub mod Writing
-pub mod Needless
+pub mod Shown
 pub mod Prefix

@@ -1,4 +1,2 @@
-pub mod Field
-pub mod Record
 pub mod Book
 pub mod Laws

@@ -3,20 +3,11 @@ ghost use mathlib.Core.Path.{_≡_};
 ghost use lib.ListN.{length};
 ghost use Rattle.codec.specs.Book.{decoded, encoded, outputAfter, spanAnswer, spanOf, recordPart, offset};
 
-mod header;
-mod layout;
 mod locate;
-mod number;
-mod reader;
-mod record_reader;
-mod record_writer;
-mod writer;
+mod records;
 
 use mesh::Answer;
 use mesh::Mesh;
-
-// The length of the longest book: an output of this length has room for any.
-const MOST_BYTES: usize = 2308;
 
 // What reading gives: the mesh, all zero on a refusal.
 pub struct Decoded {
@@ -34,11 +25,12 @@ pub struct Encoded {
 pub fn decode(book: &[u8]) -> Decoded
     ensures { λ r. ⌜ r ≡ decoded (now (book .entry)) ⌝ }
 {
-    let a = header::header_answer(book);
+    let h = reader::read_header(book);
+    let a = h.answer;
     let Answer::Accepted = a else {
-        return reader::refused(a);
+        return records::refused(a);
     };
-    reader::read_records(book)
+    records::read_records(book, h.nodes, h.count)
 }
 
 // 01's writing: the book of m at the front of out. Bytes past the book stay as they were, and all of out on a refusal.
@@ -53,20 +45,17 @@ pub fn encode(m: Mesh, out: &mut [u8]) -> Encoded
             answer: a,
         };
     };
-    if out.len() < MOST_BYTES {
-        let length = writer::book_length(m);
-        if out.len() < length {
-            let short = Answer::Refused {
-                number: 11,
-                place: length,
-            };
-            return Encoded {
-                length: 0,
-                answer: short,
-            };
-        }
+    let length = writer::write_book(out, m);
+    if out.len() < length {
+        let short = Answer::Refused {
+            number: 11,
+            place: length,
+        };
+        return Encoded {
+            length: 0,
+            answer: short,
+        };
     }
-    let length = writer::put_book(out, m);
     let done = Answer::Accepted;
     Encoded {
         length,

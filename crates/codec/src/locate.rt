@@ -1,12 +1,12 @@
 // Where one link's record stands in a book.
 use crate::decode;
-use crate::layout::record_length;
+use fields::record_length;
 use mesh::Answer;
 ghost use mathlib.Core.Path.{_≡_};
 ghost use Prim.Native.Nat.{_+_, _≤_, _<_};
 ghost use lib.ListN.{length, getD};
 ghost use Rattle.mesh.specs.declared.Answer.the-variants.{Accepted};
-ghost use Rattle.codec.specs.Record.{recordLength};
+ghost use Rattle.fields.specs.Record.{recordLength};
 ghost use Rattle.codec.specs.Book.{spanAnswer, spanOf};
 
 // Where a record stands in its book: from start up to, not including, end.

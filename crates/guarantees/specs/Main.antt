@@ -1,7 +1,7 @@
 -- The theorem page: what is claimed of the library, each theorem stated in full over the definitions that the contracts cite, and proved
 -- by citing one lemma. README.md leads from each demand to its theorem here.
 use Prim.Native.Nat.{ℕ, _≤_, _<_}
-use mathlib.Core.Path.{_≡_}
+use mathlib.Core.Path.{_≡_, refl}
 use mathlib.Core.Bool.{true}
 use mathlib.Core.Logic.{_⊎_, _↔_}
 use mathlib.Core.List.{List, _++_, List·Memᴰ}
@@ -15,8 +15,8 @@ use Rattle.mesh.specs.WellFormed.{WellFormed, InRange, link}
 use Rattle.mesh.specs.Refusal.{Refusal, previous}
 use Rattle.mesh.specs.Laws.Checked.{checks}
 use Rattle.mesh.specs.Laws.Refused.{refused-only}
-use Rattle.codec.specs.Record.{recordOf}
-use Rattle.codec.specs.Book.{bookOf, encoded, outputAfter, decoded, spanAnswer, recordPart}
+use Rattle.fields.specs.Record.{recordOf}
+use Rattle.codec.specs.Book.{longestBook, bookOf, encoded, outputAfter, decoded, spanAnswer, recordPart}
 use Rattle.codec.specs.Laws.Written.{decoded-output, book-most}
 use Rattle.codec.specs.Laws.Read.{decoded-accepted, decoded-in-range, output-decoded, one-book, accepted-most}
 use Rattle.codec.specs.Laws.Prefix.{decoded-take}
@@ -86,10 +86,13 @@ pub record-stands : (m : Mesh) → InRange m → meshAnswer m ≡ Accepted → (
 record-stands = record-shown
 
 -- a book has at most 2,308 bytes
-pub book-length : (m : Mesh) → meshAnswer m ≡ Accepted → length (bookOf m) ≤ 2308
+pub longest-book : longestBook ≡ 2308
+longest-book = refl
+
+pub book-length : (m : Mesh) → meshAnswer m ≡ Accepted → length (bookOf m) ≤ longestBook
 book-length = book-most
 
-pub accepted-length : (s : List ℕ) → AreBytes s → decoded s .answer ≡ Accepted → length s ≤ 2308
+pub accepted-length : (s : List ℕ) → AreBytes s → decoded s .answer ≡ Accepted → length s ≤ longestBook
 accepted-length = accepted-most
 
 -- what stands past the first 4,096 bytes of an input changes nothing: a longer input is refused (`accepted-length`), with the same number at the same

@@ -1,4 +1,4 @@
--- What an accepted record, header and book have. Assumes nothing.
+-- What an accepted book has. Assumes nothing.
 use Prim.Native.Nat.{ℕ, suc, _+_, _≤_, _<_}
 use mathlib.Core.Path.{_≡_, refl, sym, _∙_}
 use mathlib.Core.Bool.{true, false, not}
@@ -11,42 +11,10 @@ use Rattle.mesh.specs.declared.Link.{Link}
 use Rattle.mesh.specs.declared.Answer.the-variants.{Accepted, Refused}
 use Rattle.mesh.specs.Mesh.{linkAnswer, nodesFit, countFits, zeroLink}
 use Rattle.mesh.specs.Laws.Answer.{must-accepted, andThen-accepted}
-use Rattle.codec.specs.Field.{needless}
-use Rattle.codec.specs.Record.{fieldsOf, reserved, recordLength, linkOf, recordAnswer}
-use Rattle.codec.specs.Book.{decodedAs, knownVersion, headerAnswer, recordsAnswer, bookAnswer, meshOf, decoded}
-
--- the record at the front of s, after the link p, meets no refusal
-pub record GoodRecord (n : ℕ) (p : Link) (at : ℕ) (s : List ℕ) : Type 0 where
-  pub some : 0 < length s
-  pub unreserved : reserved (getD s 0 0) ≡ false
-  pub whole : recordLength (getD s 0 0) ≤ length s
-  pub needed : needless (getD s 0 0) (fieldsOf p (linkOf p s)) ≡ false
-  pub fits : linkAnswer n p (linkOf p s) at ≡ Accepted
-
-pub record-accepted : (n end : ℕ) (p : Link) (at : ℕ) (s : List ℕ) → recordAnswer n end p at s ≡ Accepted → GoodRecord n p at s
-unfolding recordAnswer
-record-accepted n end p at s e =
-    let (some, e1) = must-accepted (ltb 0 (length s)) _ _ _ e in
-    let (open′, e2) = must-accepted (not (reserved (getD s 0 0))) _ _ _ e1 in
-    let (whole, e3) = must-accepted (leb (recordLength (getD s 0 0)) (length s)) _ _ _ e2 in
-    let (needed, e4) = must-accepted (not (needless (getD s 0 0) (fieldsOf p (linkOf p s)))) _ _ _ e3 in
-    record { some = ltb-true _ _ some; unreserved = not-true _ open′; whole = leb-true _ _ whole; needed = not-true _ needed; fits = e4 }
-
--- the header of s meets no refusal
-pub record GoodHeader (s : List ℕ) : Type 0 where
-  pub four : 4 ≤ length s
-  pub version : knownVersion (getD s 0 0) ≡ true
-  pub nodes : nodesFit (getD s 1 0) ≡ true
-  pub count : countFits (number 2 s 2) ≡ true
-
-pub header-accepted : (s : List ℕ) → headerAnswer s ≡ Accepted → GoodHeader s
-unfolding headerAnswer
-header-accepted s e =
-    let (four, e1) = must-accepted (leb 4 (length s)) _ _ _ e in
-    let (version, e2) = must-accepted (knownVersion (getD s 0 0)) _ _ _ e1 in
-    let (nodes, e3) = must-accepted (nodesFit (getD s 1 0)) _ _ _ e2 in
-    let (count, e4) = must-accepted (countFits (number 2 s 2)) _ _ _ e3 in
-    record { four = leb-true _ _ four; version = version; nodes = nodes; count = count }
+use Rattle.fields.specs.Record.{recordLength, linkOf, recordAnswer}
+use Rattle.codec.specs.Book.{decodedAs, headerAnswer, recordsAnswer, bookAnswer, meshOf, decoded}
+use Rattle.fields.specs.Laws.Record.{GoodRecord, record-accepted}
+use Rattle.reader.specs.Laws.Header.{GoodHeader, header-accepted}
 
 -- at least one record is read, and then the others
 pub records-accepted : (n end : ℕ) (p : Link) (at k : ℕ) (s : List ℕ) → recordsAnswer n end p at (suc k) s ≡ Accepted

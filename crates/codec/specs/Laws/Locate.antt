@@ -15,9 +15,10 @@ use Rattle.mesh.specs.declared.Answer.the-variants.{Accepted, Refused}
 use Rattle.mesh.specs.Mesh.{zeroLink}
 use Rattle.mesh.specs.Laws.Answer.{must-accepted, andThen-accepted}
 use Rattle.codec.specs.declared.locate.Span.{Span}
-use Rattle.codec.specs.Record.{recordLength, linkOf}
+use Rattle.fields.specs.Record.{recordLength, linkOf}
 use Rattle.codec.specs.Book.{spanAs, recordsAnswer, bookAnswer, meshOf, decoded, recordStart, spanAnswer, spanOf}
-use Rattle.codec.specs.Laws.Accepted.{GoodRecord, records-accepted, book-accepted, decoded-mesh}
+use Rattle.codec.specs.Laws.Accepted.{records-accepted, book-accepted, decoded-mesh}
+use Rattle.fields.specs.Laws.Record.{GoodRecord}
 use Rattle.codec.specs.Laws.Reading.{left-next}
 
 -- from the start of record i on, the other records of the book are accepted

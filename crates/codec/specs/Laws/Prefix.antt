@@ -1,5 +1,5 @@
--- What stands after more bytes than any book has changes nothing that is read: at most 256 records are looked at, at most 9 bytes of each, and bytes are
--- left after the last one either way. Assumes nothing.
+-- What stands after more bytes than any book has changes nothing that is read: at most 256 records are looked at, each no longer than the longest, and bytes
+-- are left after the last one either way. Assumes nothing.
 use Prim.Native.Nat.{ℕ, zero, suc, _+_, _*_, _≤_, _<_}
 use mathlib.Core.Path.{_≡_, refl, sym}
 use mathlib.Core.List.{List, _++_}
@@ -13,41 +13,15 @@ use Rattle.mesh.specs.declared.Link.{Link}
 use Rattle.mesh.specs.declared.Answer.{Answer}
 use Rattle.mesh.specs.declared.Answer.the-variants.{Accepted, Refused}
 use Rattle.mesh.specs.Mesh.{zeroLink}
-use Rattle.codec.specs.Field.{extent}
-use Rattle.codec.specs.Record.{widths, fieldAt, recordLength, linkOf, recordAnswer}
-use Rattle.codec.specs.Book.{headerAnswer, recordsAnswer, linksOf, bookAnswer, meshOf, decoded}
-use Rattle.codec.specs.Laws.Accepted.{header-accepted}
-use Rattle.codec.specs.Laws.Fields.{recordLength-most, field-within}
-
--- ---- one record
-
-module _ (s more : List ℕ) (h : 9 ≤ length s) where
-  map-append : getD (s ++ more) 0 0 ≡ getD s 0 0
-  map-append = List·getD-append s more 0 0 (omega arith)
-
-  field-append : (i absent : ℕ) → fieldAt (s ++ more) i absent ≡ fieldAt s i absent
-  field-append i absent =
-      let b = getD s 0 0 in
-      rw (map-append, number-append (getD widths i 0) s more (1 + extent (take i widths) b) (omega (arith, field-within i b)))
-
-  link-append : (p : Link) → linkOf p (s ++ more) ≡ linkOf p s
-  unfolding linkOf
-  link-append p = rw (field-append 0 (p .low), field-append 1 (fieldAt s 0 (p .low) + 1), field-append 2 0, field-append 3 0)
-
-  -- the record is whole, so the length of the book does not count
-  record-append : (n end end′ : ℕ) (p : Link) (at : ℕ) → recordAnswer n end′ p at (s ++ more) ≡ recordAnswer n end p at s
-  unfolding recordAnswer
-  record-append n end end′ p at =
-      let b = recordLength (getD s 0 0) in
-      let most = recordLength-most (getD s 0 0) in
-      rw (length-append s more, map-append, link-append p)
-      (rw (lt-ltb 0 (length s) (omega arith), le-leb b (length s) (omega arith))
-      (rw (lt-ltb 0 (length s + length more) (omega arith), le-leb b (length s + length more) (omega arith))))
+use Rattle.fields.specs.Record.{longestRecord, recordLength, linkOf}
+use Rattle.codec.specs.Book.{longestBook, headerAnswer, recordsAnswer, linksOf, bookAnswer, meshOf, decoded}
+use Rattle.reader.specs.Laws.Header.{header-accepted}
+use Rattle.fields.specs.Laws.Record.{recordLength-most, map-append, link-append, record-append}
 
 -- ---- the records of a book
 
--- k records, of at most 9 bytes each, and a byte past them
-records-append : (n end end′ : ℕ) (p : Link) (at k : ℕ) (s more : List ℕ) → 9 * k < length s
+-- k records, and a byte past them
+records-append : (n end end′ : ℕ) (p : Link) (at k : ℕ) (s more : List ℕ) → longestRecord * k < length s
     → (recordsAnswer n end′ p at k (s ++ more) ≡ recordsAnswer n end p at k s) × (linksOf p k (s ++ more) ≡ linksOf p k s)
 unfolding recordsAnswer linksOf
 records-append n end end′ p at zero s more h =
@@ -55,15 +29,15 @@ records-append n end end′ p at zero s more h =
 records-append n end end′ p at (suc k) s more h =
     let b = recordLength (getD s 0 0) in
     let most = recordLength-most (getD s 0 0) in
-    let nine : 9 ≤ length s = omega arith in
+    let long : longestRecord ≤ length s = omega arith in
     let rest = records-append n end end′ (linkOf p s) (at + b) k (drop b s) more (rw (length-drop b s) (omega arith)) in
-    rw (record-append s more nine n end end′ p at, map-append s more nine, link-append s more nine p, drop-append-le b s more (omega arith))
+    rw (record-append s more long n end end′ p at, map-append s more long, link-append s more long p, drop-append-le b s more (omega arith))
     (rw (rest .0, rest .1) (refl, refl))
 
 -- ---- the whole book
 
--- a header of 4 bytes, 256 records of 9, and a byte past them
-module _ (s more : List ℕ) (h : 2308 < length s) where
+-- the longest book, and a byte past it
+module _ (s more : List ℕ) (h : longestBook < length s) where
   nodes-append : getD (s ++ more) 1 0 ≡ getD s 1 0
   nodes-append = List·getD-append s more 0 1 (omega arith)
 
@@ -89,7 +63,7 @@ module _ (s more : List ℕ) (h : 2308 < length s) where
           rw (header-append, e, nodes-append, count-append, drop-append-le 4 s more (omega arith)) (rw (rest .0, rest .1))
 
 -- so the first n bytes of an input are read as all of it is
-pub decoded-take : (n : ℕ) (s : List ℕ) → 2308 < n → decoded (take n s) ≡ decoded s
+pub decoded-take : (n : ℕ) (s : List ℕ) → longestBook < n → decoded (take n s) ≡ decoded s
 decoded-take n s h = go (decLe n (length s))
   where
     go : Dec (n ≤ length s) → decoded (take n s) ≡ decoded s

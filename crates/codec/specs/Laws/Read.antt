@@ -1,4 +1,4 @@
--- What was read is written: a record, the records of a book, and the whole book, which is therefore the only one of its mesh. What is read passes the
+-- What was read is written: the records of a book, and the whole book, which is therefore the only one of its mesh. What is read passes the
 -- checks of a mesh and its fields are in range. Assumes nothing.
 use Prim.Native.Nat.{ℕ, zero, suc, _+_, _-_, _^_, _≤_, _<_}
 use mathlib.Core.Path.{_≡_, refl, sym, _∙_, ap}
@@ -21,50 +21,14 @@ use Rattle.mesh.specs.WellFormed.{LinkInRange, InRange}
 use Rattle.mesh.specs.Laws.Answer.{must-accepted}
 use Rattle.mesh.specs.Laws.Refused.{nodes-says}
 use Rattle.codec.specs.declared.Decoded.{Decoded}
-use Rattle.codec.specs.Field.{stands, extent}
-use Rattle.codec.specs.Record.{widths, fieldsOf, fieldAt, recordOf, recordLength, linkOf}
-use Rattle.codec.specs.Book.{version, recordsOf, bookOf, encodeAnswer, encoded, outputAfter, recordsAnswer, linksOf, bookAnswer, meshOf, decoded}
-use Rattle.codec.specs.Laws.Accepted.{GoodRecord, GoodHeader, records-accepted, book-accepted, decoded-mesh}
+use Rattle.fields.specs.Record.{recordLength, linkOf}
+use Rattle.codec.specs.Book.{longestBook, version, recordsOf, bookOf, encodeAnswer, encoded, outputAfter, recordsAnswer, linksOf, bookAnswer, meshOf, decoded}
+use Rattle.codec.specs.Laws.Accepted.{records-accepted, book-accepted, decoded-mesh}
+use Rattle.reader.specs.Laws.Header.{GoodHeader}
 use Rattle.mesh.specs.Laws.Zeros.{all-zero}
-use Rattle.mesh.specs.Laws.GoodMesh.{link-anywhere, ends-below, GoodMesh, accepted-mesh}
-use Rattle.codec.specs.Laws.Fields.{AsRead, fields-read}
+use Rattle.mesh.specs.Laws.GoodMesh.{link-anywhere, GoodMesh, accepted-mesh}
+use Rattle.fields.specs.Laws.Record.{record-read, link-in-range, zero-in-range}
 use Rattle.codec.specs.Laws.Written.{decoded-book, book-most}
-
--- ---- one record
-
--- each field of the link that is read is what reading finds
-as-read : (p : Link) (s : List ℕ) → AsRead s 1 (getD s 0 0) (fieldsOf p (linkOf p s))
-unfolding linkOf
-as-read p s zero h = refl
-as-read p s (suc zero) h = refl
-as-read p s (suc (suc zero)) h = refl
-as-read p s (suc (suc (suc zero))) h = refl
-as-read p s (suc (suc (suc (suc i)))) h = absurd (omega arith)
-
--- a field that is 0 where it is absent fits its bytes
-field-below : (s : List ℕ) → AreBytes s → (i : ℕ) → fieldAt s i 0 < 256 ^ getD widths i 0
-field-below s small i =
-    let w = getD widths i 0 in
-    branch (λ (v : ℕ). v < 256 ^ w) (stands (getD s 0 0) i)
-    (λ e. number-below w s (1 + extent (take i widths) (getD s 0 0)) small)
-    (λ e. one-le-pow w 256 (omega arith))
-
-module _ (n : ℕ) (p : Link) (at : ℕ) (s : List ℕ) (small : AreBytes s) (g : GoodRecord n p at s) where
-  -- the record is that of the link that is read
-  pub record-read : recordOf p (linkOf p s) ≡ take (recordLength (getD s 0 0)) s
-  unfolding recordOf recordLength
-  record-read =
-      let b = getD s 0 0 in
-      let size : recordLength b ≡ 1 + extent widths b = rw (g .unreserved) in
-      let (x, y) = fields-read (fieldsOf p (linkOf p s)) s 1 b small (leb-false 16 b (g .unreserved)) (omega (arith, g .whole)) (g .needed) (as-read p s) in
-      rw (size, x, y, take-add 1 (extent widths b) s, take-suc s 0 0 (g .some))
-
-  -- the ends are nodes, and there are at most 64
-  link-in-range : n ≤ 64 → LinkInRange (linkOf p s)
-  unfolding linkOf
-  link-in-range h =
-      let (low, high) = ends-below n p (linkOf p s) at (g .fits) in
-      record { low = omega arith; high = omega arith; length = field-below s small 2; pair = field-below s small 3 }
 
 -- ---- the records of a book
 
@@ -98,7 +62,7 @@ entries-in-range : (n end : ℕ) (p : Link) (at k : ℕ) (s : List ℕ) → AreB
     → (rest i : ℕ) → LinkInRange (getD (linksOf p k s ++ replicate rest zeroLink) i zeroLink)
 unfolding linksOf
 entries-in-range n end p at zero s small h e rest i =
-    rw (replicate-at rest zeroLink i) (record { low = omega arith; high = omega arith; length = omega arith; pair = omega arith })
+    rw (replicate-at rest zeroLink i) zero-in-range
 entries-in-range n end p at (suc k) s small h e rest zero = link-in-range n p at s small (records-accepted n end p at k s e .0) h
 entries-in-range n end p at (suc k) s small h e rest (suc i) =
     let b = recordLength (getD s 0 0) in
@@ -180,7 +144,7 @@ one-book m r e s small = (
   λ q. rw q (decoded-book m r e),
 )
 
-pub accepted-most : (s : List ℕ) → AreBytes s → decoded s .answer ≡ Accepted → length s ≤ 2308
+pub accepted-most : (s : List ℕ) → AreBytes s → decoded s .answer ≡ Accepted → length s ≤ longestBook
 accepted-most s small e = rw (book-decoded s small e) at (book-most (decoded s .mesh) (decoded-accepted s e))
 
 -- the book comes back at the front of the output

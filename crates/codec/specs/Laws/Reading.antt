@@ -15,9 +15,9 @@ use Rattle.mesh.specs.declared.Answer.{Answer}
 use Rattle.mesh.specs.declared.Answer.the-variants.{Accepted, Refused}
 use Rattle.mesh.specs.Mesh.{zeroLink, zeroMesh}
 use Rattle.codec.specs.declared.Decoded.{Decoded}
-use Rattle.codec.specs.Record.{recordLength, linkOf, recordAnswer}
+use Rattle.fields.specs.Record.{recordLength, linkOf, recordAnswer}
 use Rattle.codec.specs.Book.{headerAnswer, recordsAnswer, linksOf, bookAnswer, meshOf, decoded}
-use Rattle.codec.specs.Laws.Accepted.{record-accepted}
+use Rattle.fields.specs.Laws.Record.{record-accepted}
 
 -- a turn's record is left, or none
 pub left-next : (k i : ℕ) → i < k → k - i ≡ suc (k - (i + 1))
@@ -91,7 +91,7 @@ module _ (s : List ℕ) (n k : ℕ) (m : Mesh) (prev : Link) (at i : ℕ) (R : R
         R .links ∙ rw (left-next k i h, drop-drop size at s, front)
         (sym (append-assoc (take i (m .links)) (next ∷ []) (linksOf next (k - (i + 1)) (drop (at + size) s))))
 
-    pub reading-next : Reading s n k (record { nodes = m .nodes; count = m .count; links = set (m .links) i next }) next (at + size) (i + 1)
+    reading-next : Reading s n k (record { nodes = m .nodes; count = m .count; links = set (m .links) i next }) next (at + size) (i + 1)
     reading-next = record {
       some = omega arith;
       within = reading-within;
@@ -103,6 +103,10 @@ module _ (s : List ℕ) (n k : ℕ) (m : Mesh) (prev : Link) (at i : ℕ) (R : R
       answer = answer-next;
       links = links-next;
     }
+
+    pub reading-turn : {l : Link} {w : ℕ} → l ≡ next → w ≡ size
+        → Reading s n k (record { nodes = m .nodes; count = m .count; links = set (m .links) i l }) l (at + w) (i + 1)
+    reading-turn f g = rw (f, g) reading-next
 
   -- after the last record: bytes are left, or none
   pub reading-extra : k ≤ i → at < length s → allRecords s n k ≡ Refused 10 at
@@ -131,12 +135,12 @@ module _ (s : List ℕ) (d : Decoded) where
   unfolding decoded bookAnswer
   decoded-header e em ea = rw e (λ j. record { mesh = em j; answer = ea j })
 
-  module _ (good : headerAnswer s ≡ Accepted) where
-    pub decoded-refused : {refusal place : ℕ} → allRecords s (getD s 1 0) (number 2 s 2) ≡ Refused refusal place
-        → d .mesh ≡ zeroMesh → d .answer ≡ Refused refusal place → d ≡ decoded s
+  -- a good header that says n nodes and k links
+  module _ (good : headerAnswer s ≡ Accepted) {n k : ℕ} (en : n ≡ getD s 1 0) (ek : k ≡ number 2 s 2) where
+    pub decoded-refused : {refusal place : ℕ} → allRecords s n k ≡ Refused refusal place → d .mesh ≡ zeroMesh → d .answer ≡ Refused refusal place → d ≡ decoded s
     unfolding decoded bookAnswer
-    decoded-refused e em ea = rw (good, e) (λ j. record { mesh = em j; answer = ea j })
+    decoded-refused e em ea = rw (good, rw (en, ek) at e) (λ j. record { mesh = em j; answer = ea j })
 
-    pub decoded-done : allRecords s (getD s 1 0) (number 2 s 2) ≡ Accepted → d .mesh ≡ meshOf s → d .answer ≡ Accepted → d ≡ decoded s
+    pub decoded-done : allRecords s n k ≡ Accepted → d .mesh ≡ meshOf s → d .answer ≡ Accepted → d ≡ decoded s
     unfolding decoded bookAnswer
-    decoded-done e em ea = rw (good, e) (λ j. record { mesh = em j; answer = ea j })
+    decoded-done e em ea = rw (good, rw (en, ek) at e) (λ j. record { mesh = em j; answer = ea j })

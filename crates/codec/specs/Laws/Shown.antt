@@ -6,7 +6,7 @@ use mathlib.Core.List.{List, _∷_, _++_}
 use native.Mathlib.Numerals.{add-one}
 use native.Mathlib.Omega.{arith}
 use lib.ListN.{getD, take, drop}
-use lib.Seq.{drop-drop, drop-at, take-at}
+use lib.Seq.{drop-drop}
 use Rattle.scan.specs.Part.{front, drop-take}
 use Rattle.mesh.specs.declared.Link.{Link}
 use Rattle.mesh.specs.declared.Mesh.{Mesh}
@@ -15,24 +15,22 @@ use Rattle.mesh.specs.Mesh.{zeroLink, meshAnswer}
 use Rattle.mesh.specs.WellFormed.{InRange, link}
 use Rattle.mesh.specs.Refusal.{previous}
 use Rattle.mesh.specs.Laws.GoodMesh.{GoodMesh, mesh-accepted}
-use Rattle.codec.specs.Record.{recordOf, recordLength}
+use Rattle.fields.specs.Record.{recordOf, recordLength}
 use Rattle.codec.specs.Book.{recordsOf, bookOf, recordStart, spanAnswer, spanOf, recordPart}
-use Rattle.codec.specs.Laws.Fields.{length-record}
+use Rattle.fields.specs.Laws.Record.{record-taken, record-dropped}
 use Rattle.codec.specs.Laws.Locate.{span-some}
 use Rattle.codec.specs.Laws.Written.{count-most, count-written, book-written}
 
--- the record of l after p, where it stands at `at` in s before other bytes: its length, its bytes, and what follows
+-- the record of l after p, where it stands at `at` in s before other bytes: its bytes, and what follows
 module _ (s : List ℕ) (at : ℕ) (p l : Link) (rest : List ℕ) (e : drop at s ≡ recordOf p l ++ rest) where
   size : recordLength (getD s at 0) ≡ recordLength (getD (recordOf p l ++ rest) 0 0)
   size = rw (← front s at, e)
 
   record-here : take (recordLength (getD s at 0)) (drop at s) ≡ recordOf p l
-  unfolding recordOf
-  record-here = rw (size, e) (take-at (recordOf p l) rest _ (length-record p l))
+  record-here = rw (size, e) (record-taken p l rest)
 
   record-past : drop (at + recordLength (getD s at 0)) s ≡ rest
-  unfolding recordOf
-  record-past = sym (drop-drop (recordLength (getD s at 0)) at s) ∙ rw (size, e) (drop-at (recordOf p l) rest _ (length-record p l))
+  record-past = sym (drop-drop (recordLength (getD s at 0)) at s) ∙ rw (size, e) (record-dropped p l rest)
 
 module _ (m : Mesh) (r : InRange m) (g : GoodMesh m) where
   -- the records from link k on

@@ -1,4 +1,4 @@
--- What was written is read: a record, the records of links that pass the checks, and the book of a mesh that passes them. Assumes nothing.
+-- What was written is read: the records of links that pass the checks, and the book of a mesh that passes them. Assumes nothing.
 use Prim.Native.Nat.{ℕ, zero, suc, _+_, _-_, _*_, _≤_}
 use mathlib.Core.Path.{_≡_, refl, sym, _∙_, ap}
 use mathlib.Core.List.{List, [], _∷_, _++_}
@@ -15,50 +15,13 @@ use Rattle.mesh.specs.Mesh.{zeroLink, linkAnswer, linksAnswer, meshAnswer}
 use Rattle.mesh.specs.WellFormed.{LinkInRange, InRange}
 use Rattle.mesh.specs.Laws.Answer.{andThen-accepted}
 use Rattle.mesh.specs.Laws.Checked.{passes}
-use Rattle.codec.specs.Field.{bitMap}
-use Rattle.codec.specs.Record.{fieldsOf, fieldAt, recordOf, recordLength, linkOf, recordAnswer}
-use Rattle.codec.specs.Book.{encodedAs, recordsOf, bookOf, encodeAnswer, encoded, outputAfter}
+use Rattle.fields.specs.Record.{recordOf, recordLength}
+use Rattle.codec.specs.Book.{longestBook, encodedAs, recordsOf, bookOf, encodeAnswer, encoded, outputAfter}
 use Rattle.codec.specs.Book.{recordsAnswer, linksOf, headerAnswer, bookAnswer, meshOf, decoded}
 use Rattle.mesh.specs.Laws.Zeros.{zero-links}
 use Rattle.mesh.specs.Laws.GoodMesh.{link-anywhere, GoodMesh, mesh-accepted}
-use Rattle.codec.specs.Laws.Fields.{Fits, AsRead, fields-written, none-needless, recordLength-most, map-unreserved, length-record}
-
--- ---- one record
-
--- the fields of a link in range fit their bytes
-fields-fit : (p l : Link) → LinkInRange l → Fits (fieldsOf p l)
-fields-fit p l r zero h = r .low
-fields-fit p l r (suc zero) h = r .high
-fields-fit p l r (suc (suc zero)) h = r .length
-fields-fit p l r (suc (suc (suc zero))) h = r .pair
-fields-fit p l r (suc (suc (suc (suc i)))) h = absurd (omega arith)
-
-module _ (p l : Link) (rest : List ℕ) where
-  as-read : LinkInRange l → AsRead (recordOf p l ++ rest) 1 (bitMap (fieldsOf p l)) (fieldsOf p l)
-  unfolding recordOf
-  as-read r = fields-written (fieldsOf p l) (recordOf p l ++ rest) 1 rest refl (fields-fit p l r)
-
-  -- the link is read
-  pub link-written : LinkInRange l → linkOf p (recordOf p l ++ rest) ≡ l
-  unfolding recordOf linkOf
-  link-written r =
-      let s = recordOf p l ++ rest in
-      let low : fieldAt s 0 (p .low) ≡ l .low = as-read r 0 (omega arith) in
-      λ j. record {
-        low = low j;
-        high = (ap (λ (x : ℕ). fieldAt s 1 (x + 1)) low ∙ as-read r 1 (omega arith)) j;
-        length = as-read r 2 (omega arith) j;
-        pair = as-read r 3 (omega arith) j;
-      }
-
-  -- the only refusals that such a record can meet are the link's own
-  pub record-written : (n end at : ℕ) → LinkInRange l → recordAnswer n end p at (recordOf p l ++ rest) ≡ linkAnswer n p l at
-  unfolding recordOf recordAnswer
-  record-written n end at r =
-      let s = recordOf p l ++ rest in
-      let b = recordLength (bitMap (fieldsOf p l)) in
-      let whole : length s ≡ b + length rest = length-append (recordOf p l) rest ∙ ap (λ (k : ℕ). k + length rest) (length-record p l) in
-      rw (lt-ltb 0 (length s) (omega arith), map-unreserved p l, le-leb b (length s) (omega arith), link-written r, none-needless (fieldsOf p l))
+use Rattle.writer.specs.Laws.Length.{book-within}
+use Rattle.fields.specs.Laws.Record.{link-written, record-written, record-dropped}
 
 -- ---- the records of a list of links
 
@@ -69,14 +32,13 @@ EachInRange ls = (i : ℕ) → LinkInRange (getD ls i zeroLink)
 -- records of accepted links are accepted, and those links are read
 pub records-written : (n end : ℕ) (p : Link) (at i : ℕ) (ls : List Link) → linksAnswer n p i ls ≡ Accepted → EachInRange ls
     → (recordsAnswer n end p at (length ls) (recordsOf p ls) ≡ Accepted) × (linksOf p (length ls) (recordsOf p ls) ≡ ls)
-unfolding linksAnswer recordOf recordsAnswer recordsOf linksOf
+unfolding linksAnswer recordsAnswer recordsOf linksOf
 records-written n end p at i [] e r = (refl, refl)
 records-written n end p at i (l ∷ ls) e r =
     let (first, others) = andThen-accepted (linkAnswer n p l i) (linksAnswer n l (i + 1) ls) e in
-    let b = recordLength (bitMap (fieldsOf p l)) in
-    let (x, y) = records-written n end l (at + b) (i + 1) ls others (λ j. r (suc j)) in
-    let past : drop b (recordOf p l ++ recordsOf l ls) ≡ recordsOf l ls = drop-at (recordOf p l) (recordsOf l ls) b (length-record p l) in
-    rw (record-written p l (recordsOf l ls) n end at (r 0), link-anywhere n p l i first at, link-written p l (recordsOf l ls) (r 0), past, y) (x, refl)
+    let rest = recordsOf l ls in
+    let (x, y) = records-written n end l (at + recordLength (getD (recordOf p l ++ rest) 0 0)) (i + 1) ls others (λ j. r (suc j)) in
+    rw (record-written p l rest n end at (r 0), link-anywhere n p l i first at, link-written p l rest (r 0), record-dropped p l rest, y) (x, refl)
 
 -- ---- the book of a mesh
 
@@ -130,15 +92,6 @@ decoded-output m out r e =
 
 -- ---- the length of a book
 
-records-most : (p : Link) (ls : List Link) → length (recordsOf p ls) ≤ 9 * length ls
-unfolding recordsOf
-records-most p [] = omega arith
-records-most p (l ∷ ls) =
-    rw (length-append (recordOf p l) (recordsOf l ls), length-record p l) (omega (arith, recordLength-most (bitMap (fieldsOf p l)), records-most l ls))
-
--- the book of a mesh that passes the checks has at most 2,308 bytes
-pub book-most : (m : Mesh) → meshAnswer m ≡ Accepted → length (bookOf m) ≤ 2308
-unfolding bookOf
-book-most m e =
-    let h = passes m e .count-most in
-    omega (arith, records-most zeroLink (take (m .count) (m .links)), length-take (m .count) (m .links))
+-- a book of a mesh that passes the checks is at most as long as the longest
+pub book-most : (m : Mesh) → meshAnswer m ≡ Accepted → length (bookOf m) ≤ longestBook
+book-most m e = book-within m (passes m e .count-most)

@@ -8,7 +8,7 @@ use Rattle.scan.specs.Lowest.{lowest, lowestFrom, any, every}
 use Rattle.graph.specs.Reach.{markWay, markLink, markLinks, rounds, reached, reaches}
 use Rattle.graph.specs.Plan.{connects, unreached, parts, assignments, firstThat, plan}
 use Rattle.mesh.specs.Mesh.{endsAnswer, linksAnswer, allZero, meshAnswer}
-use Rattle.codec.specs.Record.{recordLength, linkOf, recordAnswer}
+use Rattle.fields.specs.Record.{recordLength, linkOf, recordAnswer}
 use Rattle.codec.specs.Book.{headerAnswer, recordsAnswer, linksOf, bookAnswer, meshOf, decoded}
 use Rattle.planner.specs.Plan.{planAnswer, planned}
 use Rattle.scan.specs.Sweep.{sweep, sweepFrom}

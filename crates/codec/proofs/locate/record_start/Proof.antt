@@ -5,7 +5,7 @@ use mathlib.Core.Path.{_≡_, sym, _∙_, ap}
 use Prim.Native.Nat.{_+_, _-_, _≤_, _<_}
 use denote.Ref.{now}
 use lib.ListN.{length, getD}
-use Rattle.codec.specs.Record.{recordLength}
+use Rattle.fields.specs.Record.{recordLength}
 use Rattle.codec.specs.Book.{recordStart}
 use Rattle.codec.specs.Laws.Locate.{start-first, start-step, start-within}
 use Rattle.codec.proofs.locate.record_start.Statement.{statement}

@@ -1,0 +1,66 @@
+-- One link's record in the book (01, "The book"). The fields of a link are named here alone. Definitions only.
+use Prim.Native.Nat.{ℕ, _+_, _^_}
+use mathlib.Core.List.{List, [], _∷_}
+use mathlib.Core.Bool.{Bool, cond, not}
+use lib.ListN.{length, getD, take}
+use lib.Dec.{ltb, leb}
+use Rattle.scan.specs.Bytes.{number}
+use Rattle.mesh.specs.declared.Link.{Link}
+use Rattle.mesh.specs.declared.Answer.{Answer}
+use Rattle.mesh.specs.Mesh.{must, zeroLink, linkAnswer}
+use Rattle.fields.specs.declared.Fields.{Fields}
+use Rattle.fields.specs.Field.{Field, field, widthsOf, sum, fieldsBytes, bitMap, stands, extent, needless}
+
+-- 01's table: the fields of the link l after the link p, each with its bytes, its value and its value when absent
+abbrev pub fieldsOf : Link → Link → List Field
+fieldsOf p l =
+    field 1 (l .low) (p .low)
+    ∷ field 1 (l .high) (l .low + 1)
+    ∷ field 2 (l .length) 0
+    ∷ field 4 (l .pair) 0
+    ∷ []
+
+-- a link by its fields; the high end need not fit a byte
+abbrev pub asLink : Fields → Link
+asLink f = record { low = f .low; high = f .high; length = f .length; pair = f .pair }
+
+-- the bytes of each field, in bit order
+abbrev pub widths : List ℕ
+widths = widthsOf (fieldsOf zeroLink zeroLink)
+
+-- the bytes of a record with every field
+abbrev pub longestRecord : ℕ
+longestRecord = 1 + sum widths
+
+-- the record of l after p: a bit map byte, then only the fields whose bit stands
+unfoldable pub recordOf : Link → Link → List ℕ
+recordOf p l = bitMap (fieldsOf p l) ∷ fieldsBytes (fieldsOf p l)
+
+-- a bit past that of the last field stands in the bit map
+abbrev pub reserved : ℕ → Bool
+reserved b = leb (2 ^ length widths) b
+
+-- the length of a record with the bit map b: 1 plus the bytes of the fields whose bits stand; 0 where a reserved bit stands
+unfoldable pub recordLength : ℕ → ℕ
+recordLength b = cond (reserved b) 0 (1 + extent widths b)
+
+-- field i of the record at the front of s: its bytes where its bit stands, else the absent value
+abbrev pub fieldAt : List ℕ → ℕ → ℕ → ℕ
+fieldAt s i absent =
+    let b = getD s 0 0 in
+    cond (stands b i) (number (getD widths i 0) s (1 + extent (take i widths) b)) absent
+
+-- the link of the record at the front of s, after the link p
+unfoldable pub linkOf : Link → List ℕ → Link
+linkOf p s =
+    let low = fieldAt s 0 (p .low) in
+    record { low = low; high = fieldAt s 1 (low + 1); length = fieldAt s 2 0; pair = fieldAt s 3 0 }
+
+-- reading the record at the front of s, which stands at `at` in a book of `end` bytes, after the link p: 1, 5, 1, 9, 7, 6, 8
+unfoldable pub recordAnswer : ℕ → ℕ → Link → ℕ → List ℕ → Answer
+recordAnswer n end p at s =
+    must (ltb 0 (length s)) 1 end
+    (must (not (reserved (getD s 0 0))) 5 at
+    (must (leb (recordLength (getD s 0 0)) (length s)) 1 end
+    (must (not (needless (getD s 0 0) (fieldsOf p (linkOf p s)))) 9 at
+    (linkAnswer n p (linkOf p s) at))))
