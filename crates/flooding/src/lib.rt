@@ -19,14 +19,8 @@ pub fn begin(t: Topology, f: Flood) -> Flood
     let open = t.open;
     let mut states = f.states;
     let mut reached = f.reached;
-    delivery::begin(
-        &tails,
-        &open,
-        &mut states,
-        &mut reached,
-        t.count as usize,
-        t.source,
-    );
+    let links = t.count as usize;
+    delivery::begin(&tails, &open, &mut states, &mut reached, links, t.source);
     Flood { states, reached }
 }
 

@@ -24,7 +24,7 @@ pub fn offer_all(tails: &[u8; 256], starts: &[u8; 256], states: &mut [u8; 256], 
     let links = links_of(count);
     let mut i: usize = 0;
     while i < links {
-        let p = state::both(tails[i] == a, starts[i] == a);
+        let p = (tails[i] == a) & (starts[i] == a);
         states[i] = offered(p, states[i]);
         i += 1;
     }
@@ -47,10 +47,10 @@ pub fn offer_quiet(
     let mut i: usize = 0;
     while i < links {
         let v = states[i];
-        let leaves = state::both(tails[i] == a, starts[i] == a);
-        let p = state::both(leaves, v == state::QUIET);
+        let leaves = (tails[i] == a) & (starts[i] == a);
+        let p = leaves & (v == state::QUIET);
         states[i] = offered(p, v);
-        found = state::either(found, p);
+        found = found | p;
         i += 1;
     }
     found

@@ -21,8 +21,8 @@ fn held_within(tails: &[u8; 256], states: &[u8; 256], from: usize, a: u8) -> boo
     let mut found = false;
     let mut j: usize = 0;
     while j < HELD_BLOCK {
-        let held = state::both(tails[from + j] == a, state::is_live(states[from + j]));
-        found = state::either(found, held);
+        let held = (tails[from + j] == a) & state::is_live(states[from + j]);
+        found = found | held;
         j += 1;
     }
     found
@@ -53,7 +53,7 @@ pub fn some_held(tails: &[u8; 256], states: &[u8; 256], count: usize, a: u8) -> 
         return true;
     }
     while i < links {
-        if state::both(tails[i] == a, state::is_live(states[i])) {
+        if (tails[i] == a) & state::is_live(states[i]) {
             return true;
         }
         i += 1;
@@ -69,8 +69,8 @@ fn taken_within(ends: &[u8; 256], states: &[u8; 256], from: usize, a: u8) -> boo
     let mut found = false;
     let mut j: usize = 0;
     while j < BLOCK {
-        let taken = state::both(ends[from + j] == a, states[from + j] == state::TAKEN);
-        found = state::either(found, taken);
+        let taken = (ends[from + j] == a) & (states[from + j] == state::TAKEN);
+        found = found | taken;
         j += 1;
     }
     found
@@ -98,7 +98,7 @@ pub fn lowest_taken(ends: &[u8; 256], states: &[u8; 256], count: usize, a: u8) -
     let links = links_of(count);
     let mut i = skip_untaken(ends, states, links, a);
     while i < links {
-        if state::both(ends[i] == a, states[i] == state::TAKEN) {
+        if (ends[i] == a) & (states[i] == state::TAKEN) {
             return i;
         }
         i += 1;
@@ -114,7 +114,7 @@ fn busy_within(states: &[u8; 256], from: usize) -> bool
     let mut found = false;
     let mut j: usize = 0;
     while j < BLOCK {
-        found = state::either(found, is_under_way(states[from + j]));
+        found = found | is_under_way(states[from + j]);
         j += 1;
     }
     found

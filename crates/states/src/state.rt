@@ -1,6 +1,5 @@
-// Tests on a link's state: 0 quiet, 1 offered, 2 taken, 3 refused, 4 released. And tests joined without a branch, for the loops.
+// Tests on a link's state: 0 quiet, 1 offered, 2 taken, 3 refused, 4 released.
 ghost use mathlib.Core.Path.{_≡_};
-ghost use mathlib.Core.Bool.{_&&_, _||_};
 ghost use Rattle.flood.specs.Machine.{live};
 
 pub(crate) const QUIET: u8 = 0;
@@ -15,16 +14,4 @@ pub(crate) fn is_live(v: u8) -> bool
         1..=3 => true,
         0 | 4 | 5..=255 => false,
     }
-}
-
-pub(crate) fn both(p: bool, q: bool) -> bool
-    ensures { λ r. ⌜ r ≡ (p && q) ⌝ }
-{
-    if p { q } else { false }
-}
-
-pub(crate) fn either(p: bool, q: bool) -> bool
-    ensures { λ r. ⌜ r ≡ (p || q) ⌝ }
-{
-    if p { true } else { q }
 }

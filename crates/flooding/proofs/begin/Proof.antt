@@ -4,8 +4,8 @@ use borrow.Author.Needs.{needs}
 use Rattle.flooding.proofs.begin.Statement.{statement}
 use Rattle.flooding.proofs.begin.Tie as tie
 
-cast-begin : tie.Need-cast-begin
-cast-begin c = search needs
+cast-links : tie.Need-cast-links
+cast-links c = search needs
 
 begin-requires : tie.Need-begin-requires
 begin-requires c κs = search needs
@@ -17,4 +17,4 @@ returns c =
     c .begin .ensures (t .nodes) (t .target) (t .heads)
 
 pub begin-spec : {M : Type 1} → statement M
-begin-spec = tie.close (tie.spec cast-begin begin-requires returns)
+begin-spec = tie.close (tie.spec cast-links begin-requires returns)

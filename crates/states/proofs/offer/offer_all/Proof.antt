@@ -30,14 +30,11 @@ loop-holds c =
     let a = c .before .args in
     (omega arith, sym (sweep-none (new (now (a .tails)) (now (a .starts)) (a .a)) (now (a .states))))
 
-element-copy-out-both : tie.Need-element-copy-out-both Inv-loop μ-loop
-element-copy-out-both c = omega arith
+element-copy-out-p : tie.Need-element-copy-out-p Inv-loop μ-loop
+element-copy-out-p c = omega arith
 
-element-copy-out-both-2 : tie.Need-element-copy-out-both-2 Inv-loop μ-loop
-element-copy-out-both-2 c = omega arith
-
-both-requires : tie.Need-both-requires Inv-loop μ-loop
-both-requires c κs = search needs
+element-copy-out-p-2 : tie.Need-element-copy-out-p-2 Inv-loop μ-loop
+element-copy-out-p-2 c = omega arith
 
 element-copy-out-offered : tie.Need-element-copy-out-offered Inv-loop μ-loop
 element-copy-out-offered c = omega arith
@@ -56,11 +53,10 @@ loop-less c = omega arith
 
 loop-again : tie.Need-loop-again Inv-loop μ-loop
 loop-again c =
-    let l = c .before .before .before .before .before .before .loop in
-    let a = c .before .before .before .before .before .before .before .before .args in
+    let l = c .before .before .before .before .before .loop in
+    let a = c .before .before .before .before .before .before .before .args in
     let f = new (now (a .tails)) (now (a .starts)) (a .a) in
-    let w : c .offered .result ≡ f (l .i) (at (l .states) (l .i)) = rw (← c .before .before .both .ensures) (c .offered .ensures) in
-    (omega arith, sweep-turn f (now (a .states)) (l .states) (l .i) (l .inv .1) _ w)
+    (omega arith, sweep-turn f (now (a .states)) (l .states) (l .i) (l .inv .1) _ (c .offered .ensures))
 
 returns : tie.Need-returns Inv-loop μ-loop
 returns c =
@@ -77,9 +73,8 @@ offer-all-spec =
     μ-loop
     links-of-requires
     loop-holds
-    element-copy-out-both
-    element-copy-out-both-2
-    both-requires
+    element-copy-out-p
+    element-copy-out-p-2
     element-copy-out-offered
     offered-requires
     element-write-states

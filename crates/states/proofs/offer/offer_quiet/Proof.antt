@@ -1,7 +1,7 @@
 -- `states::offer::offer_quiet` meets its contract. The loop keeps that the entries below i are as the pass leaves them, and whether one of them passed.
 use borrow.Author.Needs.{needs}
 use Prim.Native.Nat.{ℕ, _-_, _≤_}
-use mathlib.Core.Path.{_≡_, sym, ap, _∙_}
+use mathlib.Core.Path.{_≡_, refl, sym, ap}
 use mathlib.Core.Bool.{cond}
 use mathlib.Core.List.{List}
 use native.Mathlib.Omega.{arith}
@@ -37,26 +37,17 @@ loop-holds c =
 element-copy-out-v : tie.Need-element-copy-out-v Inv-loop μ-loop
 element-copy-out-v c = omega arith
 
-element-copy-out-both : tie.Need-element-copy-out-both Inv-loop μ-loop
-element-copy-out-both c = omega arith
+element-copy-out-leaves : tie.Need-element-copy-out-leaves Inv-loop μ-loop
+element-copy-out-leaves c = omega arith
 
-element-copy-out-both-2 : tie.Need-element-copy-out-both-2 Inv-loop μ-loop
-element-copy-out-both-2 c = omega arith
-
-both-requires : tie.Need-both-requires Inv-loop μ-loop
-both-requires c κs = search needs
-
-both-requires-2 : tie.Need-both-requires-2 Inv-loop μ-loop
-both-requires-2 c κs = search needs
+element-copy-out-leaves-2 : tie.Need-element-copy-out-leaves-2 Inv-loop μ-loop
+element-copy-out-leaves-2 c = omega arith
 
 offered-requires : tie.Need-offered-requires Inv-loop μ-loop
 offered-requires c κs = search needs
 
 element-write-states : tie.Need-element-write-states Inv-loop μ-loop
 element-write-states c = omega arith
-
-either-requires : tie.Need-either-requires Inv-loop μ-loop
-either-requires c κs = search needs
 
 add-i : tie.Need-add-i Inv-loop μ-loop
 add-i c = omega arith
@@ -66,18 +57,14 @@ loop-less c = omega arith
 
 loop-again : tie.Need-loop-again Inv-loop μ-loop
 loop-again c =
-    let joins = c .before .before in
-    let l = joins .before .before .before .before .before .before .loop in
-    let a = joins .before .before .before .before .before .before .before .before .args in
+    let l = c .before .before .before .before .before .loop in
+    let a = c .before .before .before .before .before .before .before .args in
     let f = new (now (a .tails)) (now (a .starts)) (a .a) in
     let p = opening (now (a .tails)) (now (a .starts)) (a .a) in
-    let as-it-was = sweep-reads f (now (a .states)) (l .states) (l .i) (l .inv .1) in
-    let leaves = joins .before .both .ensures in
-    let t : joins .both2 .result ≡ p (l .i) (at (l .states) (l .i)) = rw (← leaves) (joins .both2 .ensures) in
-    let w : c .before .offered .result ≡ f (l .i) (at (l .states) (l .i)) = rw (← t) (c .before .offered .ensures) in (
+    let as-it-was = sweep-reads f (now (a .states)) (l .states) (l .i) (l .inv .1) in (
       omega arith,
-      sweep-turn f (now (a .states)) (l .states) (l .i) (l .inv .1) _ w,
-      any-turn (λ j. p j (at (now (a .states)) j)) (l .i) (l .found) _ _ (l .inv .2) (t ∙ ap (p (l .i)) as-it-was) (c .either .ensures),
+      sweep-turn f (now (a .states)) (l .states) (l .i) (l .inv .1) _ (c .offered .ensures),
+      any-turn (λ j. p j (at (now (a .states)) j)) (l .i) (l .found) _ _ (l .inv .2) (ap (p (l .i)) as-it-was) refl,
     )
 
 returns : tie.Need-returns Inv-loop μ-loop
@@ -96,13 +83,10 @@ offer-quiet-spec =
     links-of-requires
     loop-holds
     element-copy-out-v
-    element-copy-out-both
-    element-copy-out-both-2
-    both-requires
-    both-requires-2
+    element-copy-out-leaves
+    element-copy-out-leaves-2
     offered-requires
     element-write-states
-    either-requires
     add-i
     loop-less
     loop-again

@@ -1,6 +1,6 @@
 -- `states::search::busy_within` meets its contract. The loop keeps whether one of the first j links of the block is under way.
 use Prim.Native.Nat.{ℕ, _+_, _-_, _≤_}
-use mathlib.Core.Path.{_≡_}
+use mathlib.Core.Path.{_≡_, refl}
 use mathlib.Core.Bool.{Bool}
 use native.Mathlib.Omega.{arith}
 use denote.Ref.{now}
@@ -28,9 +28,6 @@ element-copy-out-is-under-way c = omega arith
 is-under-way-requires : tie.Need-is-under-way-requires Inv-loop μ-loop
 is-under-way-requires c κs = search needs
 
-either-requires : tie.Need-either-requires Inv-loop μ-loop
-either-requires c κs = search needs
-
 add-j : tie.Need-add-j Inv-loop μ-loop
 add-j c = omega arith
 
@@ -39,10 +36,10 @@ loop-less c = omega arith
 
 loop-again : tie.Need-loop-again Inv-loop μ-loop
 loop-again c =
-    let l = c .before .before .before .before .loop in
-    let a = c .before .before .before .before .before .args in
+    let l = c .before .before .before .loop in
+    let a = c .before .before .before .before .args in
     let p : ℕ → Bool = λ k. busy (now (a .states)) (a .from + k) in
-    (omega arith, any-turn p (l .j) (l .found) _ _ (l .inv .1) (c .before .is-under-way .ensures) (c .either .ensures))
+    (omega arith, any-turn p (l .j) (l .found) _ _ (l .inv .1) (c .is-under-way .ensures) refl)
 
 returns : tie.Need-returns Inv-loop μ-loop
 returns c =
@@ -60,7 +57,6 @@ busy-within-spec =
     add-is-under-way
     element-copy-out-is-under-way
     is-under-way-requires
-    either-requires
     add-j
     loop-less
     loop-again

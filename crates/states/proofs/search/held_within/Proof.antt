@@ -1,10 +1,12 @@
 -- `states::search::held_within` meets its contract. The loop keeps whether one of the first j links of the block passes.
 use Prim.Native.Nat.{ℕ, _+_, _-_, _≤_}
-use mathlib.Core.Path.{_≡_}
-use mathlib.Core.Bool.{Bool}
+use mathlib.Core.Path.{_≡_, refl}
+use mathlib.Core.Bool.{Bool, _&&_}
 use native.Mathlib.Omega.{arith}
 use denote.Ref.{now}
 use borrow.Author.Needs.{needs}
+use lib.Dec.{eqb}
+use Rattle.scan.specs.Entry.{at}
 use Rattle.scan.specs.Lowest.{any, any-zero, any-turn}
 use Rattle.flood.specs.Lent.{held}
 use Rattle.states.proofs.search.held_within.Statement.{statement}
@@ -19,11 +21,11 @@ abbrev μ-loop : tie.MeasureT-loop
 loop-holds : tie.Need-loop-holds Inv-loop μ-loop
 loop-holds c = (omega arith, any-zero _)
 
-add-both : tie.Need-add-both Inv-loop μ-loop
-add-both c = omega arith
+add-held : tie.Need-add-held Inv-loop μ-loop
+add-held c = omega arith
 
-element-copy-out-both : tie.Need-element-copy-out-both Inv-loop μ-loop
-element-copy-out-both c = omega arith
+element-copy-out-held : tie.Need-element-copy-out-held Inv-loop μ-loop
+element-copy-out-held c = omega arith
 
 add-is-live : tie.Need-add-is-live Inv-loop μ-loop
 add-is-live c = omega arith
@@ -34,12 +36,6 @@ element-copy-out-is-live c = omega arith
 is-live-requires : tie.Need-is-live-requires Inv-loop μ-loop
 is-live-requires c κs = search needs
 
-both-requires : tie.Need-both-requires Inv-loop μ-loop
-both-requires c κs = search needs
-
-either-requires : tie.Need-either-requires Inv-loop μ-loop
-either-requires c κs = search needs
-
 add-j : tie.Need-add-j Inv-loop μ-loop
 add-j c = omega arith
 
@@ -48,11 +44,11 @@ loop-less c = omega arith
 
 loop-again : tie.Need-loop-again Inv-loop μ-loop
 loop-again c =
-    let l = c .before .before .before .before .before .before .loop in
-    let a = c .before .before .before .before .before .before .before .args in
+    let l = c .before .before .before .before .loop in
+    let a = c .before .before .before .before .before .args in
     let p : ℕ → Bool = λ k. held (now (a .tails)) (now (a .states)) (a .a) (a .from + k) in
-    let t : c .before .both .result ≡ p (l .j) = rw (← c .before .before .is-live .ensures) (c .before .both .ensures) in
-    (omega arith, any-turn p (l .j) (l .found) _ _ (l .inv .1) t (c .either .ensures))
+    let leaves = eqb (at (now (a .tails)) (a .from + l .j)) (a .a) in
+    (omega arith, any-turn p (l .j) (l .found) (leaves && c .is-live .result) _ (l .inv .1) (rw (← c .is-live .ensures)) refl)
 
 returns : tie.Need-returns Inv-loop μ-loop
 returns c =
@@ -67,13 +63,11 @@ held-within-spec =
     Inv-loop
     μ-loop
     loop-holds
-    add-both
-    element-copy-out-both
+    add-held
+    element-copy-out-held
     add-is-live
     element-copy-out-is-live
     is-live-requires
-    both-requires
-    either-requires
     add-j
     loop-less
     loop-again

@@ -1,6 +1,5 @@
 -- `states::search::lowest_taken` meets its contract. After the blocks the loop keeps that none below i passes.
 use Prim.Native.Nat.{_-_}
-use mathlib.Core.Path.{sym, _∙_}
 use native.Mathlib.Omega.{arith}
 use borrow.Author.Needs.{needs}
 use Rattle.flood.specs.Lent.{taken}
@@ -24,21 +23,16 @@ skip-untaken-requires c κs = search needs
 loop-holds : tie.Need-loop-holds Inv-loop μ-loop
 loop-holds c = c .skip-untaken .ensures .passed
 
-element-copy-out-both : tie.Need-element-copy-out-both Inv-loop μ-loop
-element-copy-out-both c = omega arith
+element-copy-out-if1 : tie.Need-element-copy-out-if1 Inv-loop μ-loop
+element-copy-out-if1 c = omega arith
 
-element-copy-out-both-2 : tie.Need-element-copy-out-both-2 Inv-loop μ-loop
-element-copy-out-both-2 c = omega arith
-
-both-requires : tie.Need-both-requires Inv-loop μ-loop
-both-requires c κs = search needs
+element-copy-out-if1-2 : tie.Need-element-copy-out-if1-2 Inv-loop μ-loop
+element-copy-out-if1-2 c = omega arith
 
 returns : tie.Need-returns Inv-loop μ-loop
 returns c =
-    let l = c .before .before .before .before .before .loop in
-    let asked = c .before .before .before .before .before .before .before in
-    rw (← asked .links-of .ensures)
-    (lowest-here (l .inv) (omega arith) (sym (c .before .both .ensures) ∙ c .if1 .taken))
+    let l = c .before .before .before .before .loop in
+    rw (← c .before .before .before .before .before .before .links-of .ensures) (lowest-here (l .inv) (omega arith) (c .if1 .taken))
 
 add-i : tie.Need-add-i Inv-loop μ-loop
 add-i c = omega arith
@@ -47,9 +41,7 @@ loop-less : tie.Need-loop-less Inv-loop μ-loop
 loop-less c = omega arith
 
 loop-again : tie.Need-loop-again Inv-loop μ-loop
-loop-again c =
-    let l = c .before .before .before .before .before .loop in
-    passed-one (l .inv) (omega arith) (sym (c .before .both .ensures) ∙ c .if1 .left)
+loop-again c = passed-one (c .before .before .before .before .loop .inv) (omega arith) (c .if1 .left)
 
 returns-2 : tie.Need-returns-2 Inv-loop μ-loop
 returns-2 c = rw (← c .before .before .before .links-of .ensures) (lowest-nowhere (c .before .loop .inv) (c .loop-test .left))
@@ -63,9 +55,8 @@ lowest-taken-spec =
     links-of-requires
     skip-untaken-requires
     loop-holds
-    element-copy-out-both
-    element-copy-out-both-2
-    both-requires
+    element-copy-out-if1
+    element-copy-out-if1-2
     returns
     add-i
     loop-less

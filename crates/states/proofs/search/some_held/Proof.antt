@@ -29,8 +29,8 @@ returns c = rw (← c .before .before .links-of .ensures) (any-stopped (c .befor
 loop-holds : tie.Need-loop-holds Inv-loop μ-loop
 loop-holds c = c .before .skip-unheld .ensures .passed
 
-element-copy-out-both : tie.Need-element-copy-out-both Inv-loop μ-loop
-element-copy-out-both c = omega arith
+element-copy-out-if2 : tie.Need-element-copy-out-if2 Inv-loop μ-loop
+element-copy-out-if2 c = omega arith
 
 element-copy-out-is-live : tie.Need-element-copy-out-is-live Inv-loop μ-loop
 element-copy-out-is-live c = omega arith
@@ -38,15 +38,11 @@ element-copy-out-is-live c = omega arith
 is-live-requires : tie.Need-is-live-requires Inv-loop μ-loop
 is-live-requires c κs = search needs
 
-both-requires : tie.Need-both-requires Inv-loop μ-loop
-both-requires c κs = search needs
-
 returns-2 : tie.Need-returns-2 Inv-loop μ-loop
 returns-2 c =
-    let l = c .before .before .before .before .before .before .loop in
-    let asked = c .before .before .before .before .before .before .before .before .before in
-    rw (← asked .links-of .ensures)
-    (any-here (l .inv) (omega arith) (rw (← c .before .before .is-live .ensures, ← c .before .both .ensures) (c .if2 .taken)))
+    let l = c .before .before .before .before .before .loop in
+    let here = any-here (l .inv) (omega arith) (rw (← c .before .is-live .ensures) (c .if2 .taken)) in
+    rw (← c .before .before .before .before .before .before .before .before .links-of .ensures) here
 
 add-i : tie.Need-add-i Inv-loop μ-loop
 add-i c = omega arith
@@ -55,9 +51,7 @@ loop-less : tie.Need-loop-less Inv-loop μ-loop
 loop-less c = omega arith
 
 loop-again : tie.Need-loop-again Inv-loop μ-loop
-loop-again c =
-    let l = c .before .before .before .before .before .before .loop in
-    passed-one (l .inv) (omega arith) (rw (← c .before .before .is-live .ensures, ← c .before .both .ensures) (c .if2 .left))
+loop-again c = passed-one (c .before .before .before .before .before .loop .inv) (omega arith) (rw (← c .before .is-live .ensures) (c .if2 .left))
 
 returns-3 : tie.Need-returns-3 Inv-loop μ-loop
 returns-3 c = rw (← c .before .before .before .before .links-of .ensures) (any-nowhere (c .before .loop .inv) (c .loop-test .left))
@@ -73,10 +67,9 @@ some-held-spec =
     sub-if1
     returns
     loop-holds
-    element-copy-out-both
+    element-copy-out-if2
     element-copy-out-is-live
     is-live-requires
-    both-requires
     returns-2
     add-i
     loop-less

@@ -1,6 +1,6 @@
 -- `states::search::taken_within` meets its contract. The loop keeps whether one of the first j links of the block passes.
 use Prim.Native.Nat.{ℕ, _+_, _-_, _≤_}
-use mathlib.Core.Path.{_≡_}
+use mathlib.Core.Path.{_≡_, refl}
 use mathlib.Core.Bool.{Bool}
 use native.Mathlib.Omega.{arith}
 use denote.Ref.{now}
@@ -19,23 +19,17 @@ abbrev μ-loop : tie.MeasureT-loop
 loop-holds : tie.Need-loop-holds Inv-loop μ-loop
 loop-holds c = (omega arith, any-zero _)
 
-add-both : tie.Need-add-both Inv-loop μ-loop
-add-both c = omega arith
+add-taken : tie.Need-add-taken Inv-loop μ-loop
+add-taken c = omega arith
 
-element-copy-out-both : tie.Need-element-copy-out-both Inv-loop μ-loop
-element-copy-out-both c = omega arith
+element-copy-out-taken : tie.Need-element-copy-out-taken Inv-loop μ-loop
+element-copy-out-taken c = omega arith
 
-add-both-2 : tie.Need-add-both-2 Inv-loop μ-loop
-add-both-2 c = omega arith
+add-taken-2 : tie.Need-add-taken-2 Inv-loop μ-loop
+add-taken-2 c = omega arith
 
-element-copy-out-both-2 : tie.Need-element-copy-out-both-2 Inv-loop μ-loop
-element-copy-out-both-2 c = omega arith
-
-both-requires : tie.Need-both-requires Inv-loop μ-loop
-both-requires c κs = search needs
-
-either-requires : tie.Need-either-requires Inv-loop μ-loop
-either-requires c κs = search needs
+element-copy-out-taken-2 : tie.Need-element-copy-out-taken-2 Inv-loop μ-loop
+element-copy-out-taken-2 c = omega arith
 
 add-j : tie.Need-add-j Inv-loop μ-loop
 add-j c = omega arith
@@ -45,10 +39,10 @@ loop-less c = omega arith
 
 loop-again : tie.Need-loop-again Inv-loop μ-loop
 loop-again c =
-    let l = c .before .before .before .before .before .loop in
-    let a = c .before .before .before .before .before .before .args in
+    let l = c .before .before .before .loop in
+    let a = c .before .before .before .before .args in
     let p : ℕ → Bool = λ k. taken (now (a .ends)) (now (a .states)) (a .a) (a .from + k) in
-    (omega arith, any-turn p (l .j) (l .found) _ _ (l .inv .1) (c .before .both .ensures) (c .either .ensures))
+    (omega arith, any-turn p (l .j) (l .found) _ _ (l .inv .1) refl refl)
 
 returns : tie.Need-returns Inv-loop μ-loop
 returns c =
@@ -63,12 +57,10 @@ taken-within-spec =
     Inv-loop
     μ-loop
     loop-holds
-    add-both
-    element-copy-out-both
-    add-both-2
-    element-copy-out-both-2
-    both-requires
-    either-requires
+    add-taken
+    element-copy-out-taken
+    add-taken-2
+    element-copy-out-taken-2
     add-j
     loop-less
     loop-again
