@@ -2,6 +2,31 @@
 ghost use Rattle.io.specs.Counts.{Counts};
 use libc::STDIN_FILENO;
 
+// What reading gave: so many bytes, or none where the input cannot be read.
+pub struct Came {
+    pub count: usize,
+    pub failed: bool,
+}
+
+// Reads into the front of `space` until it is full or the input ends. A read that fails after the first counts as the input's end.
+pub fn read_input(space: &mut [u8]) -> Came
+    ensures { λ r. ⌜ Counts (r .count) (now (space .exit)) ⌝ }
+{
+    let got = libc::read(STDIN_FILENO, space);
+    let first = io::count(got, space);
+    if got <= 0 {
+        return Came {
+            count: 0,
+            failed: got < 0,
+        };
+    }
+    let rest = io::read_full(STDIN_FILENO, &mut space[first..]);
+    Came {
+        count: first + rest,
+        failed: false,
+    }
+}
+
 pub fn next_byte() -> u8 {
     let mut b = [0u8; 1];
     io::read_full(STDIN_FILENO, &mut b);

@@ -1,17 +1,16 @@
--- `listing::line::put_word` stays within the line.
+-- `streams::held::put_word` is safe and ends.
 use borrow.Author.Needs.{needs}
-use native.Mathlib.Omega.{arith}
-use mathlib.Core.Path.{_≡_, _∙_}
 use Prim.Native.Nat.{_-_, _≤_}
-use lib.ListN.{length}
-use Rattle.listing.proofs.line.put_word.Statement.{statement}
-use Rattle.listing.proofs.line.put_word.Tie as tie
+use mathlib.Core.Path.{_≡_}
+use lib.ListN as lists
+use Rattle.streams.proofs.held.put_word.Statement.{statement}
+use Rattle.streams.proofs.held.put_word.Tie as tie
 
 abbrev Inv-loop : tie.InvT-loop
-Inv-loop line₀ at word next₀ i₀ line next i = (next ≤ length line) × ((length line ≡ length line₀) × (i ≤ length word))
+Inv-loop out₀ at word next₀ i₀ out next i = (lists.length out ≡ lists.length out₀) × (i ≤ lists.length word)
 
 abbrev μ-loop : tie.MeasureT-loop
-μ-loop line₀ at word next₀ i₀ line next i = length word - i
+μ-loop out₀ at word next₀ i₀ out next i = lists.length word - i
 
 loop-holds : tie.Need-loop-holds Inv-loop μ-loop
 loop-holds c = search needs
@@ -29,10 +28,7 @@ loop-less : tie.Need-loop-less Inv-loop μ-loop
 loop-less c = search needs
 
 loop-again : tie.Need-loop-again Inv-loop μ-loop
-loop-again c =
-    let put = c .before .before .put-byte in
-    let lo = c .before .before .before .before .before .before .loop in
-    (put .ensures, (put .kept .0 ∙ lo .inv .1 .0, omega arith))
+loop-again c = search needs
 
 same-length : tie.Need-same-length Inv-loop μ-loop
 same-length c = search needs
