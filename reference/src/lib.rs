@@ -13,6 +13,7 @@ pub mod meshplan;
 pub mod node_set;
 pub mod plain_plan;
 pub mod plan;
+pub mod programs;
 pub mod random;
 pub mod reader;
 pub mod record;

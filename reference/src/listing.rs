@@ -32,13 +32,18 @@ pub fn listing(cases: &[Case]) -> Result<String, String> {
 }
 
 #[derive(Default)]
-struct Lines {
-    text: String,
+pub struct Lines {
+    pub text: String,
 }
 
 impl Lines {
     fn book(&mut self, number: usize, room: u16, link: u16, book: &[u8]) {
         self.line(&format!("book {number} {}", book.len()));
+        self.book_lines(room, link, book);
+    }
+
+    /// The lines after the first.
+    pub fn book_lines(&mut self, room: u16, link: u16, book: &[u8]) {
         let (mesh, answer) = decode(book);
         self.answer("read", answer);
         self.mesh(&mesh);
@@ -111,7 +116,7 @@ impl Lines {
         self.line(&format!("{form}digest {digest}"));
     }
 
-    fn answer(&mut self, word: &str, answer: Answer) {
+    pub fn answer(&mut self, word: &str, answer: Answer) {
         self.line(&format!("{word} {}", in_words(answer)));
     }
 
@@ -126,7 +131,7 @@ impl Lines {
         self.line(format!("{word} {digits}").trim_end());
     }
 
-    fn line(&mut self, line: &str) {
+    pub fn line(&mut self, line: &str) {
         self.text.push_str(line);
         self.text.push('\n');
     }

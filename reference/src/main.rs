@@ -1,9 +1,11 @@
 //! `reference corpus SEED BOOK..` writes a corpus, with each book file as a
 //! book to list at its end; `reference expect` reads a corpus and writes its
-//! listing; `reference case CALL..` reads a book and writes the case of a
-//! script that starts on the mesh's plan and makes these calls;
-//! `reference meshplan` reads a book and lists its mesh, its plan and every
-//! cut; `reference book` reads a text table and writes its book;
+//! listing; `reference script CALL..` reads a book and writes the input of the
+//! program `calls` for this book and these calls; `reference calls` reads such
+//! an input and writes what `calls` prints; `reference show` reads a book and
+//! writes what the program `show` prints; `reference meshplan` reads a book and
+//! lists its mesh, its plan and every cut; `reference book` reads a text table
+//! and writes its book;
 //! `reference table` reads a book and writes its text table;
 //! `reference bench` repeats a job on a book; `reference time BENCH MESHPLAN`
 //! measures two programs with the same input and output as `reference bench`
@@ -14,13 +16,12 @@ use std::io::{self, Read, Write};
 use std::process::ExitCode;
 
 use reference::book::{bytes_of, decode};
-use reference::case::{read_cases, write_cases, Case, MOST_BYTES};
-use reference::plan::plan;
-use reference::refusal::{in_words, Refusal};
-use reference::script::{calls_of, Call, Origin, Script, CALLS};
+use reference::case::{read_cases, write_cases, MOST_BYTES};
+use reference::refusal::in_words;
+use reference::script::{calls_of, Call};
 use reference::timing::program::Program;
 use reference::timing::write_table;
-use reference::{bench, corpus, listing, meshplan, table};
+use reference::{bench, corpus, listing, meshplan, programs, table};
 
 fn main() -> ExitCode {
     let arguments: Vec<String> = std::env::args().skip(1).collect();
@@ -31,10 +32,12 @@ fn main() -> ExitCode {
             Err(_) => usage(),
         },
         ["expect"] => finish(write_listing()),
-        ["case", ref words @ ..] => match calls_of(words) {
-            Some(calls) => finish(write_script(calls)),
-            None => usage_of_calls(),
+        ["script", ref words @ ..] => match calls_of(words) {
+            Ok(calls) => finish(write_script(&calls)),
+            Err(why) => no_calls(&why),
         },
+        ["calls"] => finish(write_answers()),
+        ["show"] => finish(write_shown()),
         ["meshplan"] => finish(write_meshplan()),
         ["book"] => exit(write_book()),
         ["table"] => exit(write_text_table()),
@@ -46,15 +49,15 @@ fn main() -> ExitCode {
 
 fn usage() -> ExitCode {
     eprintln!(
-        "usage: reference corpus SEED BOOK.. | reference expect | reference case CALL.. | \
-         reference meshplan | reference book | reference table | reference bench | \
-         reference time BENCH MESHPLAN"
+        "usage: reference corpus SEED BOOK.. | reference expect | reference script CALL.. | \
+         reference calls | reference show | reference meshplan | reference book | \
+         reference table | reference bench | reference time BENCH MESHPLAN"
     );
     ExitCode::from(2)
 }
 
-fn usage_of_calls() -> ExitCode {
-    eprintln!("usage: each call is one of: {CALLS}");
+fn no_calls(why: &str) -> ExitCode {
+    eprintln!("{why}");
     ExitCode::from(2)
 }
 
@@ -76,19 +79,20 @@ fn read_book(path: &str) -> io::Result<Vec<u8>> {
     Ok(book)
 }
 
-/// The book's mesh must have a plan.
-fn write_script(calls: Vec<Call>) -> io::Result<()> {
+fn write_script(calls: &[Call]) -> io::Result<()> {
     let book = read_input()?;
-    let refused = |refusal: Refusal| io::Error::other(in_words(Err(refusal)));
-    let (mesh, answer) = decode(&book);
-    answer.and(plan(&mesh).1).map_err(refused)?;
-    let origin = Origin::OwnPlan;
-    let script = Script {
-        book,
-        origin,
-        calls,
-    };
-    io::stdout().write_all(&write_cases(&[Case::Script(script)]))
+    io::stdout().write_all(&programs::input_of_calls(&book, calls))
+}
+
+fn write_answers() -> io::Result<()> {
+    let answers = programs::calls(&read_input()?);
+    let answers = answers.ok_or_else(|| io::Error::other("ill-formed input"))?;
+    io::stdout().write_all(answers.as_bytes())
+}
+
+fn write_shown() -> io::Result<()> {
+    let lines = programs::show(&read_input()?);
+    io::stdout().write_all(lines.as_bytes())
 }
 
 fn write_listing() -> io::Result<()> {

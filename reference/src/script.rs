@@ -3,8 +3,8 @@
 mod bytes;
 mod words;
 
-pub use bytes::{read_script, write_script};
-pub use words::{calls_of, CALLS};
+pub use bytes::{read_calls, read_script, write_calls, write_script};
+pub use words::calls_of;
 
 use crate::book::decode;
 use crate::mesh::{Link, Mesh, MOST_LINKS};

@@ -85,21 +85,24 @@ fn corpus_ends_with_the_books_that_are_given() {
 }
 
 #[test]
-fn case_writes_a_script() {
-    let calls = ["case", "cut", "4", "run", "256", "route"];
-    let expected = [b"S\x0d\0", &P5[..], b"\0\x03\0C\x04\0R\0\x01\0\0Q"].concat();
-    assert_eq!(run(&calls, &P5).stdout, expected);
-    for (book, why) in [
-        (&[1, 2, 1, 0, 2, 1][..], "reference: refused 9 4\n"),
-        (&[1, 2, 1, 0, 0], "reference: refused 21 0\n"),
-    ] {
-        let output = run(&calls, book);
-        assert!(!output.status.success());
-        assert_eq!(String::from_utf8(output.stderr).unwrap(), why);
-    }
-    let output = run(&["case", "cut", "4", "wait"], b"");
+fn script_writes_the_input_of_calls() {
+    let words = ["script", "cut", "4", "run", "256", "route"];
+    let expected = [b"\x0d\0", &P5[..], b"\x03\0C\x04\0R\0\x01\0\0Q"].concat();
+    assert_eq!(run(&words, &P5).stdout, expected);
+    let answers = "start accepted\ncut 4 accepted\nrun 256 made 6 rest\nroute accepted 1 2\n\
+        cut-is 4\nstates 42240\nreached 0 1 2 3\n";
+    assert_eq!(run(&["calls"], &expected).stdout, answers.as_bytes());
+    assert!(!run(&["calls"], b"S").status.success());
+    let output = run(&["script", "cut", "4", "wait"], b"");
     assert_eq!(output.status.code(), Some(2));
-    assert!(output.stderr.starts_with(b"usage: "));
+    assert!(output.stdout.is_empty());
+    assert!(output.stderr.starts_with(b"`wait` is no call"));
+}
+
+#[test]
+fn show_prints_the_lines_of_a_book() {
+    let shown = run(&["show"], &P1).stdout;
+    assert!(shown.starts_with(b"book 9\nread accepted\nmesh 3 3\n"));
 }
 
 #[test]

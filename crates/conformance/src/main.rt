@@ -1,17 +1,9 @@
 // Reads the corpus from standard input and prints what the library answers to each case (docs/CORPUS.md).
 mod book;
-mod call;
 mod calls;
 mod case;
-mod digest;
-mod input;
-mod listed;
 mod planning;
-mod print;
 mod record;
-mod script;
-mod session;
-mod written;
 
 // The most cases that are read, so that the loop ends whatever the input holds.
 const MOST_CASES: u64 = 1000000;

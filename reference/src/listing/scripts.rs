@@ -1,6 +1,7 @@
 //! The lines of a script.
 
 use super::Lines;
+use crate::mesh::MOST_LINKS;
 use crate::refusal::{in_words, Refusal};
 use crate::script::{Call, Script};
 use crate::session::{Delivery, Run, Session, Status, RELEASED};
@@ -20,26 +21,29 @@ impl Lines {
             self.line(&call_line(&mut session, *call));
             self.line(&format!("{IN_PLACE}{}", call_line(&mut lent, *call)));
         }
-        self.session("", &session);
-        self.session(IN_PLACE, &lent);
+        for (form, session) in [("", session), (IN_PLACE, lent)] {
+            self.session(form, &session, MOST_LINKS);
+            self.digest(form, &session);
+        }
     }
 
-    fn session(&mut self, form: &str, session: &Session) {
+    /// The session at the end, with so many states.
+    pub fn session(&mut self, form: &str, session: &Session, links: usize) {
         match session.cut {
             None => self.line(&format!("{form}cut none")),
             Some(link) => self.line(&format!("{form}cut-is {link}")),
         }
-        let states: String = session.states.iter().map(|state| digit(*state)).collect();
+        let states = session.states[..links].iter().map(|state| digit(*state));
+        let states: String = states.collect();
         self.line(&format!("{form}states {states}"));
         let all = (0..).zip(session.reached);
         let reached = all.filter(|node| node.1).map(|node| node.0);
         self.digits(&format!("{form}reached"), &spaced(reached));
-        self.digest(form, session);
     }
 }
 
 /// Makes a call; gives its line.
-fn call_line(session: &mut Session, call: Call) -> String {
+pub fn call_line(session: &mut Session, call: Call) -> String {
     match call {
         Call::Cut(link) => format!("cut {link} {}", in_words(session.cut(link))),
         Call::Deliver(link) => format!("deliver {link} {}", delivery(session.deliver(link))),

@@ -32,8 +32,13 @@ pub fn write_script(script: &Script, output: &mut Vec<u8>) {
             write_session(given, output);
         }
     }
-    output.extend((script.calls.len() as u16).to_le_bytes());
-    for call in &script.calls {
+    write_calls(&script.calls, output);
+}
+
+/// The number of calls and the calls.
+pub fn write_calls(calls: &[Call], output: &mut Vec<u8>) {
+    output.extend((calls.len() as u16).to_le_bytes());
+    for call in calls {
         write_call(*call, output);
     }
 }
@@ -89,13 +94,18 @@ pub fn read_script(reader: &mut Reader) -> Option<Script> {
         GIVEN_SESSION => Origin::GivenSession(Box::new(read_session(reader)?)),
         _ => return None,
     };
-    let count = reader.two()?;
-    let calls: Option<Vec<Call>> = (0..count).map(|_| read_call(reader)).collect();
+    let calls = read_calls(reader)?;
     Some(Script {
         book,
         origin,
-        calls: calls?,
+        calls,
     })
+}
+
+/// None if the bytes are ill-formed.
+pub fn read_calls(reader: &mut Reader) -> Option<Vec<Call>> {
+    let count = reader.two()?;
+    (0..count).map(|_| read_call(reader)).collect()
 }
 
 fn read_directions(reader: &mut Reader) -> Option<Vec<u8>> {

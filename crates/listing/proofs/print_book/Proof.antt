@@ -64,17 +64,11 @@ print-refusal-requires-2 c κs = search needs
 returns-2 : tie.Need-returns-2
 returns-2 c = planned-answers (c .before .before .before)
 
-print-mesh-requires : tie.Need-print-mesh-requires
-print-mesh-requires c κs = search needs
-
-print-links-requires : tie.Need-print-links-requires
-print-links-requires c κs = search needs
-
-print-cuts-requires : tie.Need-print-cuts-requires
-print-cuts-requires c κs = search needs
+print-session-requires : tie.Need-print-session-requires
+print-session-requires c κs = search needs
 
 returns-3 : tie.Need-returns-3
-returns-3 c = planned-answers (c .before .before .before .before .before .before .before)
+returns-3 c = planned-answers (c .before .before .before .before)
 
 pub print-book-spec : {M : Type 1} → statement M
 print-book-spec =
@@ -90,7 +84,5 @@ print-book-spec =
     enum-told-4
     print-refusal-requires-2
     returns-2
-    print-mesh-requires
-    print-links-requires
-    print-cuts-requires
+    print-session-requires
     returns-3)

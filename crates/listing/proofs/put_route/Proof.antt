@@ -1,23 +1,28 @@
--- `listing::put_route` stays within the line.
+-- `listing::put_route` is safe and ends.
 use borrow.Author.Needs.{needs}
-use native.Mathlib.Omega.{arith}
-use mathlib.Core.Path.{_≡_, _∙_}
 use Prim.Native.Nat.{_-_, _≤_}
+use mathlib.Core.Path.{_≡_}
 use lib.ListN as lists
 use Rattle.listing.proofs.put_route.Statement.{statement}
 use Rattle.listing.proofs.put_route.Tie as tie
 
 abbrev Inv-loop : tie.InvT-loop
-Inv-loop line₀ at route length next₀ i₀ line next i = (next ≤ lists.length line) × ((lists.length line ≡ lists.length line₀) × (i ≤ 256))
+Inv-loop out₀ at route length next₀ i₀ out next i = (lists.length out ≡ lists.length out₀) × (i ≤ 256)
 
 abbrev μ-loop : tie.MeasureT-loop
-μ-loop line₀ at route length next₀ i₀ line next i = 256 - i
+μ-loop out₀ at route length next₀ i₀ out next i = 256 - i
 
 cast-length : tie.Need-cast-length Inv-loop μ-loop
 cast-length c = search needs
 
 loop-holds : tie.Need-loop-holds Inv-loop μ-loop
 loop-holds c = search needs
+
+same-length : tie.Need-same-length Inv-loop μ-loop
+same-length c = search needs
+
+returns : tie.Need-returns Inv-loop μ-loop
+returns c = search needs
 
 mul-put-link-number : tie.Need-mul-put-link-number Inv-loop μ-loop
 mul-put-link-number c = search needs
@@ -35,16 +40,13 @@ loop-less : tie.Need-loop-less Inv-loop μ-loop
 loop-less c = search needs
 
 loop-again : tie.Need-loop-again Inv-loop μ-loop
-loop-again c =
-    let put = c .before .before .put-link-number in
-    let lo = c .before .before .before .before .before .before .loop in
-    (put .ensures, (put .kept .0 ∙ lo .inv .1 .0, omega arith))
+loop-again c = search needs
 
-same-length : tie.Need-same-length Inv-loop μ-loop
-same-length c = search needs
+same-length-2 : tie.Need-same-length-2 Inv-loop μ-loop
+same-length-2 c = search needs
 
-returns : tie.Need-returns Inv-loop μ-loop
-returns c = search needs
+returns-2 : tie.Need-returns-2 Inv-loop μ-loop
+returns-2 c = search needs
 
 pub put-route-spec : {M : Type 1} → statement M
 put-route-spec =
@@ -54,11 +56,13 @@ put-route-spec =
     μ-loop
     cast-length
     loop-holds
+    same-length
+    returns
     mul-put-link-number
     element-copy-out-put-link-number
     put-link-number-requires
     add-i
     loop-less
     loop-again
-    same-length
-    returns)
+    same-length-2
+    returns-2)

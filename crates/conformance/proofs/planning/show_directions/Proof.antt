@@ -40,14 +40,11 @@ loop-again c = search needs
 end-requires : tie.Need-end-requires Inv-loop μ-loop
 end-requires c κs = search needs
 
-slice-aggregate-field : tie.Need-slice-aggregate-field Inv-loop μ-loop
-slice-aggregate-field c = search needs
+slice-aggregate-line : tie.Need-slice-aggregate-line Inv-loop μ-loop
+slice-aggregate-line c = search needs
 
-field-requires : tie.Need-field-requires Inv-loop μ-loop
-field-requires c κs = search needs
-
-end-requires-2 : tie.Need-end-requires-2 Inv-loop μ-loop
-end-requires-2 c κs = search needs
+line-requires : tie.Need-line-requires Inv-loop μ-loop
+line-requires c κs = search needs
 
 returns : tie.Need-returns Inv-loop μ-loop
 returns c = search needs
@@ -68,7 +65,6 @@ show-directions-spec =
     loop-less
     loop-again
     end-requires
-    slice-aggregate-field
-    field-requires
-    end-requires-2
+    slice-aggregate-line
+    line-requires
     returns)

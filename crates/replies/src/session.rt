@@ -1,0 +1,90 @@
+// The lines of a session at the end of a script, and of a route query.
+use crate::form;
+use flood::Route;
+use formed::Cut;
+use mesh::Answer;
+use recovery::Session;
+use streams::print::answer;
+use streams::print::digits;
+use streams::print::end;
+use streams::print::field;
+use streams::print::number;
+use streams::print::word;
+
+// The cut, the states of the first `links` links, and the reached nodes.
+pub fn show_session(s: Session, lent: bool, links: u16) {
+    form(lent);
+    let cut = s.cut;
+    show_cut(cut);
+    let flood = s.flood;
+    let states = flood.states;
+    form(lent);
+    show_states(&states, links as usize);
+    let reached = flood.reached;
+    form(lent);
+    show_reached(&reached);
+}
+
+fn show_cut(cut: Cut) {
+    match cut {
+        Cut::Link(k) => field(b"cut-is", k as u64),
+        Cut::Nothing => word(b"cut none"),
+    }
+    end();
+}
+
+fn state(v: u8) {
+    if v < 5 {
+        digits(v as u64);
+    } else {
+        word(b"?");
+    }
+}
+
+fn show_states(states: &[u8; 256], links: usize) {
+    word(b"states ");
+    let mut i: usize = 0;
+    while i < 256 {
+        if i < links {
+            state(states[i]);
+        }
+        i += 1;
+    }
+    end();
+}
+
+fn show_reached(reached: &[bool; 64]) {
+    word(b"reached");
+    let mut v: usize = 0;
+    while v < 64 {
+        if reached[v] {
+            number(v as u64);
+        }
+        v += 1;
+    }
+    end();
+}
+
+// The line of a route query: its answer, then the links of an accepted one.
+pub fn show_route(lent: bool, a: Answer, route: Route) {
+    form(lent);
+    word(b"route");
+    answer(a);
+    let links = route.links;
+    show_links(&links, route.length as usize);
+    end();
+}
+
+fn show_links(links: &[u16; 256], length: usize) {
+    let mut i: usize = 0;
+    while i < 256 {
+        if i < length {
+            link(links[i]);
+        }
+        i += 1;
+    }
+}
+
+fn link(k: u16) {
+    number(k as u64);
+}

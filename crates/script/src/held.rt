@@ -1,0 +1,65 @@
+// The calls that are read and not made yet: for each its letter, the letter of its form in place, and its number.
+use crate::MOST_CALLS;
+use crate::QUERY;
+use streams::input::next_four;
+use streams::input::next_two;
+
+// Holds a call behind those that are held, and says how many are held then. A route query is not held.
+pub(crate) fn hold(
+    letters: &mut [u8],
+    lent: &mut [u8],
+    numbers: &mut [u32],
+    held: usize,
+    letter: u8,
+) -> usize {
+    if letter == QUERY {
+        return held;
+    }
+    if letters.len() <= held {
+        return held;
+    }
+    letters[held] = letter;
+    store(lent, held, lent_letter(letter));
+    store_number(numbers, held, next_number(letter));
+    held + 1
+}
+
+// The letter of the same call on a session that is lent.
+fn lent_letter(letter: u8) -> u8 {
+    match letter {
+        b'C' => b'c',
+        b'D' => b'd',
+        b'M' => b'm',
+        _ => letter,
+    }
+}
+
+// Stores v at index i where there is one.
+fn store(entries: &mut [u8], i: usize, v: u8) {
+    if i < entries.len() {
+        entries[i] = v;
+    }
+}
+
+fn store_number(entries: &mut [u32], i: usize, v: u32) {
+    if i < entries.len() {
+        entries[i] = v;
+    }
+}
+
+// The link or the allowance of a call.
+fn next_number(letter: u8) -> u32 {
+    if letter == b'R' {
+        next_four()
+    } else {
+        next_two() as u32
+    }
+}
+
+// Whether a list ends: at a route query, or where no more calls can be held.
+pub(crate) fn ends(held: usize, letter: u8) -> bool {
+    if letter == QUERY {
+        return true;
+    }
+    MOST_CALLS <= held
+}
