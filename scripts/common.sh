@@ -20,7 +20,7 @@ need() {
     command -v "$1" >/dev/null && return
     case $1 in
     rt) from="it is the command of the Rattle kit, in the kit's folder bin/, which belongs on PATH" ;;
-    cargo) from="it comes with Rust: 'apt-get install cargo' on Debian, or https://rustup.rs" ;;
+    cargo) from="it comes with Rust: 'apt-get install cargo' on Debian" ;;
     dot) from="it comes with Graphviz: 'apt-get install graphviz' on Debian" ;;
     esac
     fail "$1 is not installed: $from"
