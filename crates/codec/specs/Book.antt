@@ -13,7 +13,7 @@ use Rattle.codec.specs.declared.Decoded.{Decoded}
 use Rattle.codec.specs.declared.Encoded.{Encoded}
 use Rattle.codec.specs.declared.locate.Span.{Span}
 use Rattle.fields.specs.Record.{recordLength, linkOf, recordAnswer}
--- what a mesh is written as, and the header
+-- what a mesh is written as, and the header, are defined in the crates that write and read them
 pub use Rattle.writer.specs.Written.{version, longestBook}
 unfoldable pub use Rattle.writer.specs.Written.{recordsOf, bookOf}
 unfoldable pub use Rattle.reader.specs.Read.{headerAnswer}

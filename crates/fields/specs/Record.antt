@@ -1,4 +1,4 @@
--- One link's record in the book (01, "The book"). The fields of a link are named here alone. Definitions only.
+-- One link's record in the book (01, "The book"). Definitions only; no other definition names the fields of a link.
 use Prim.Native.Nat.{ℕ, _+_, _^_}
 use mathlib.Core.List.{List, [], _∷_}
 use mathlib.Core.Bool.{Bool, cond, not}

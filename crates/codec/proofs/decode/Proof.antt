@@ -1,7 +1,6 @@
 -- `codec::decode` meets its contract: a refused header decides, else the records do.
 use mathlib.Core.Path.{_≡_, sym, _∙_, ap}
 use denote.Ref.{now}
-use Rattle.mesh.specs.declared.Answer.the-variants.{Accepted}
 use Rattle.reader.specs.declared.Header.{Header}
 use Rattle.reader.specs.Laws.Header.{header-answer, header-read}
 use Rattle.codec.specs.Book.{headerAnswer}

@@ -38,7 +38,8 @@ returns-2 c =
     let w = c .before .before .before in
     let e = w .before .before in
     let a = e .before .before .before .before .args in
-    rw (w .write-book .ensures .0, w .write-book .ensures .1) (encode-short (a .m) (now (a .out)) (accepted e) (omega (arith, w .write-book .ensures .0, w .write-book .kept .0, c .if1 .taken)))
+    let r = w .write-book .ensures in
+    encode-short (a .m) (now (a .out)) (accepted e) (w .write-book .result) (r .0) (r .1) (omega (arith, w .write-book .kept .0, c .if1 .taken))
 
 same-length-2 : tie.Need-same-length-2
 same-length-2 c = search needs
@@ -48,7 +49,8 @@ returns-3 c =
     let w = c .before .before .before in
     let e = w .before .before in
     let a = e .before .before .before .before .args in
-    rw (w .write-book .ensures .0, w .write-book .ensures .1) (encode-done (a .m) (now (a .out)) (accepted e) (omega (arith, w .write-book .ensures .0, w .write-book .kept .0, c .if1 .left)))
+    let r = w .write-book .ensures in
+    encode-done (a .m) (now (a .out)) (accepted e) (w .write-book .result) (r .0) (r .1) (omega (arith, w .write-book .kept .0, c .if1 .left))
 
 pub encode-spec : {M : Type 1} → statement M
 encode-spec =

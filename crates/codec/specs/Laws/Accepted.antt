@@ -1,16 +1,13 @@
 -- What an accepted book has. Assumes nothing.
-use Prim.Native.Nat.{ℕ, suc, _+_, _≤_, _<_}
+use Prim.Native.Nat.{ℕ, suc, _+_}
 use mathlib.Core.Path.{_≡_, refl, sym, _∙_}
-use mathlib.Core.Bool.{true, false, not}
 use mathlib.Core.List.{List}
-use borrow.Author.Tests.{ltb-true, leb-true, not-true}
-use lib.Dec.{ltb, leb}
 use lib.ListN.{length, getD, drop}
 use Rattle.scan.specs.Bytes.{number}
 use Rattle.mesh.specs.declared.Link.{Link}
 use Rattle.mesh.specs.declared.Answer.the-variants.{Accepted, Refused}
-use Rattle.mesh.specs.Mesh.{linkAnswer, nodesFit, countFits, zeroLink}
-use Rattle.mesh.specs.Laws.Answer.{must-accepted, andThen-accepted}
+use Rattle.mesh.specs.Mesh.{zeroLink}
+use Rattle.mesh.specs.Laws.Answer.{andThen-accepted}
 use Rattle.fields.specs.Record.{recordLength, linkOf, recordAnswer}
 use Rattle.codec.specs.Book.{decodedAs, headerAnswer, recordsAnswer, bookAnswer, meshOf, decoded}
 use Rattle.fields.specs.Laws.Record.{GoodRecord, record-accepted}

@@ -24,22 +24,22 @@ module _ (m : Mesh) (out : List ℕ) where
   unfolding encoded outputAfter encodeAnswer
   encode-refused a {number} {place} e r = let h : meshAnswer m ≡ Refused number place = sym e ∙ r in (rw (h, r), rw h)
 
-  -- a mesh that is accepted has a book
-  module _ (h : meshAnswer m ≡ Accepted) where
-    pub length-stored : bookLength m ≡ length (bookOf m)
+  -- a mesh that is accepted has a book, of n bytes
+  module _ (h : meshAnswer m ≡ Accepted) (n : ℕ) (q : n ≡ bookLength m) {after : List ℕ} (o : after ≡ bookStored m out) where
+    sized : n ≡ length (bookOf m)
     unfolding bookLength
-    length-stored = rw (mesh-accepted m h .count)
+    sized = q ∙ rw (mesh-accepted m h .count)
 
     -- the output is short
-    pub encode-short : length out < bookLength m → Encodes m out (record { length = 0; answer = Refused 11 (bookLength m) }) (bookStored m out)
+    pub encode-short : length out < n → Encodes m out (record { length = 0; answer = Refused 11 n }) after
     unfolding encoded outputAfter encodeAnswer bookStored
     encode-short l =
-        let short = lt-leb _ _ (rw length-stored at l) in
-        (rw (h, length-stored, short), rw (h, mesh-accepted m h .count, short))
+        let short = lt-leb _ _ (rw sized at l) in
+        (rw (h, ← sized, lt-leb _ _ l), o ∙ rw (h, mesh-accepted m h .count, short))
 
     -- the book is written
-    pub encode-done : bookLength m ≤ length out → Encodes m out (record { length = bookLength m; answer = Accepted }) (bookStored m out)
+    pub encode-done : n ≤ length out → Encodes m out (record { length = n; answer = Accepted }) after
     unfolding encoded outputAfter encodeAnswer bookStored
     encode-done l =
-        let fits = le-leb _ _ (rw length-stored at l) in
-        (rw (h, length-stored, fits), rw (h, mesh-accepted m h .count, fits))
+        let fits = le-leb _ _ (rw sized at l) in
+        (rw (h, ← sized, le-leb _ _ l), o ∙ rw (h, mesh-accepted m h .count, fits))

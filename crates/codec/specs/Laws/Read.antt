@@ -1,18 +1,16 @@
 -- What was read is written: the records of a book, and the whole book, which is therefore the only one of its mesh. What is read passes the
 -- checks of a mesh and its fields are in range. Assumes nothing.
-use Prim.Native.Nat.{ℕ, zero, suc, _+_, _-_, _^_, _≤_, _<_}
+use Prim.Native.Nat.{ℕ, zero, suc, _+_, _-_, _≤_}
 use mathlib.Core.Path.{_≡_, refl, sym, _∙_, ap}
 use mathlib.Core.Logic.{_↔_}
 use mathlib.Core.List.{List, _∷_, _++_}
-use native.Mathlib.Nat.{one-le-pow}
 use native.Mathlib.Omega.{arith}
-use borrow.Author.Tests.{leb-true, leb-false, le-leb, eqb-true}
+use borrow.Author.Tests.{leb-true, le-leb, eqb-true}
 use lib.Dec.{eqb}
 use lib.ListN.{length, getD, take, drop, replicate, length-append, length-replicate, take-append-drop}
-use lib.Seq.{drop-drop, drop-cons, take-add, take-suc, take-all, take-at, drop-at}
-use Rattle.scan.specs.Bytes.{bytes, number, AreBytes, number-below, bytes-number, bytes-drop}
+use lib.Seq.{drop-drop, drop-cons, take-all, take-at, drop-at}
+use Rattle.scan.specs.Bytes.{bytes, number, AreBytes, bytes-number, bytes-drop}
 use Rattle.scan.specs.Entry.{replicate-at}
-use Rattle.scan.specs.Test.{branch}
 use Rattle.mesh.specs.declared.Link.{Link}
 use Rattle.mesh.specs.declared.Mesh.{Mesh}
 use Rattle.mesh.specs.declared.Answer.the-variants.{Accepted}

@@ -1,11 +1,11 @@
 -- What was written is read: the records of links that pass the checks, and the book of a mesh that passes them. Assumes nothing.
-use Prim.Native.Nat.{ℕ, zero, suc, _+_, _-_, _*_, _≤_}
-use mathlib.Core.Path.{_≡_, refl, sym, _∙_, ap}
+use Prim.Native.Nat.{ℕ, suc, _+_, _-_, _≤_}
+use mathlib.Core.Path.{_≡_, refl, sym, _∙_}
 use mathlib.Core.List.{List, [], _∷_, _++_}
 use native.Mathlib.Omega.{arith}
-use borrow.Author.Tests.{leb-true, lt-ltb, le-leb}
-use lib.ListN.{length, getD, take, drop, replicate, length-append, length-take, length-drop, take-append-drop}
-use lib.Seq.{length-take-le, take-append-seam, drop-at}
+use borrow.Author.Tests.{leb-true, le-leb}
+use lib.ListN.{length, getD, take, drop, replicate, length-drop, take-append-drop}
+use lib.Seq.{length-take-le, take-append-seam}
 use Rattle.scan.specs.Part.{each-taken}
 use Rattle.scan.specs.Bytes.{number, number-bytes}
 use Rattle.mesh.specs.declared.Link.{Link}

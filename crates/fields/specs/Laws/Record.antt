@@ -10,7 +10,7 @@ use borrow.Author.Tests.{ltb-true, leb-true, leb-false, lt-ltb, le-leb, lt-leb, 
 use lib.Dec.{ltb, leb}
 use lib.ListN.{length, getD, take, drop, length-append, List·getD-append}
 use lib.Seq.{take-add, take-suc, take-at, drop-at}
-use Rattle.scan.specs.Bytes.{number, AreBytes, number-below, number-append}
+use Rattle.scan.specs.Bytes.{AreBytes, number-below, number-append}
 use Rattle.scan.specs.Test.{branch}
 use Rattle.mesh.specs.declared.Link.{Link}
 use Rattle.mesh.specs.declared.Answer.the-variants.{Accepted}

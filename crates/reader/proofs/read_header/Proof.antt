@@ -7,7 +7,7 @@ use borrow.Author.Needs.{needs}
 use borrow.Author.Tests.{le-leb, lt-leb, not-true, not-false}
 use Rattle.mesh.specs.declared.Answer.the-variants.{Accepted}
 use Rattle.mesh.specs.Mesh.{must, nodesFit, countFits}
-use Rattle.reader.specs.Read.{knownVersion, headerAnswer, headerRead}
+use Rattle.reader.specs.Read.{knownVersion, headerAnswer}
 use Rattle.reader.specs.Laws.Header.{header-refused, header-read}
 use Rattle.reader.proofs.read_header.Statement.{statement}
 use Rattle.reader.proofs.read_header.Tie as tie

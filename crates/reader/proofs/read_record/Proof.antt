@@ -1,6 +1,5 @@
 -- `reader::read_record` meets its contract: each return rewrites `recordAnswer` with the tests that led there. The test of
 -- bit maps stands for refusal 9 by `record-needed`.
-use Prim.Native.Nat.{ℕ}
 use mathlib.Core.Path.{_≡_, sym, ap, _∙_}
 use mathlib.Core.Bool.{false}
 use native.Mathlib.Omega.{arith}

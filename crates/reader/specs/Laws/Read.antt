@@ -1,10 +1,9 @@
 -- What reading one record gives, from its answer. Serves the proof of `read_record`. Assumes nothing.
 use Prim.Native.Nat.{ℕ}
-use mathlib.Core.Path.{_≡_, refl, ap, _∙_}
+use mathlib.Core.Path.{_≡_, refl, _∙_}
 use mathlib.Core.List.{List}
 use lib.ListN.{getD}
 use Rattle.mesh.specs.declared.Link.{Link}
-use Rattle.mesh.specs.declared.Answer.{Answer}
 use Rattle.mesh.specs.declared.Answer.the-variants.{Accepted, Refused}
 use Rattle.mesh.specs.Mesh.{zeroLink}
 use Rattle.reader.specs.declared.Record.{Record}

@@ -1,11 +1,11 @@
 -- The length of a book, and what storing it gives. Assumes nothing.
 use Prim.Native.Nat.{ℕ, _+_, _*_, _≤_, _<_}
 use mathlib.Core.Path.{_≡_, _∙_}
-use mathlib.Core.List.{List, [], _∷_, _++_}
+use mathlib.Core.List.{List, [], _∷_}
 use mathlib.Core.Bool.{true, false}
 use native.Mathlib.Omega.{arith}
-use borrow.Author.Tests.{leb-true, le-leb, lt-leb}
-use lib.ListN.{length, take, drop, length-append, length-take}
+use borrow.Author.Tests.{le-leb, lt-leb}
+use lib.ListN.{length, take, length-append, length-take}
 use lib.Seq.{sets}
 use Rattle.scan.specs.Store.{sets-front}
 use Rattle.mesh.specs.declared.Link.{Link}

@@ -1,14 +1,12 @@
--- `reader::cursor::fields_at` meets its contract. Before each field the cursor is the one that `Next` says, so the field lies within the record,
+-- `reader::cursor::fields_at` meets its contract. Before each field the place is the one that `Next` says, so the field lies within the record,
 -- and its value is the one that `linkOf` names.
-use Prim.Native.Nat.{ℕ, _+_, _<_}
-use mathlib.Core.Path.{_≡_}
+use Prim.Native.Nat.{ℕ, _<_}
 use mathlib.Core.List.{List}
 use mathlib.Core.Logic.{⊎-elim}
 use native.Mathlib.Omega.{arith}
 use denote.Ref.{now}
 use borrow.Author.Needs.{needs}
-use Rattle.mesh.specs.declared.Link.{Link}
-use Rattle.fields.specs.Record.{fieldAt, linkOf}
+use Rattle.fields.specs.Record.{linkOf}
 use Rattle.reader.specs.Laws.Cursor.{Next, next-first, next-value, next-after, next-within}
 use Rattle.reader.proofs.cursor.fields_at.Statement.{statement}
 use Rattle.reader.proofs.cursor.fields_at.Tie as tie
@@ -26,7 +24,7 @@ start-3 c = start-2 (c .before)
 abbrev bytes : tie.Start → List ℕ
 bytes c = now (c .args .s)
 
--- the cursor after each field
+-- the place after each field
 after-1 : (c : tie.After-next-field) → Next (bytes (start-1 c)) 1 (c .next-field .result .bits) (c .next-field .result .at)
 after-1 c = let e = c .next-field .ensures in next-after (next-first (bytes (start-1 c))) (e .0) (e .1 .0)
 
