@@ -33,12 +33,7 @@ fn head_of(link: Link, direction: u8) -> u8
 }
 
 // Stores where each back-up arc starts and where it ends; the entries past the last link stay.
-fn fill_ends(
-    mesh: Mesh,
-    directions: &[u8; 256],
-    tails: &mut [u8; 256],
-    heads: &mut [u8; 256],
-)
+fn fill_ends(mesh: Mesh, directions: &[u8; 256], tails: &mut [u8; 256], heads: &mut [u8; 256])
     requires { ⌜ (length (now tails) ≡ 256) × (length (now heads) ≡ 256) ⌝ }
     ensures tails { λ _. ⌜ now (tails .exit) ≡ filled (backTail mesh (record { directions = now (directions .entry) })) (mesh .count) (now (tails .entry)) ⌝ }
     ensures heads { λ _. ⌜ now (heads .exit) ≡ filled (backHead mesh (record { directions = now (directions .entry) })) (mesh .count) (now (heads .entry)) ⌝ }
