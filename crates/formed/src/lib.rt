@@ -46,12 +46,12 @@ fn ill_formed() -> Answer
 }
 
 // The record of a session with these pieces: mesh, 13.
-pub fn record_answer(
+pub fn record_answer<'a>(
     mesh: Mesh,
     directions: &[u8; 256],
     cut: Cut,
-    states: &[u8; 256],
-    reached: &[bool; 64],
+    states: &'a [u8; 256],
+    reached: &'a [bool; 64],
 ) -> Answer
     ensures { λ r. ⌜ r ≡ recordAnswer mesh (record { directions = now (directions .entry) }) cut
         (record { states = now (states .entry); reached = now (reached .entry) }) ⌝ }

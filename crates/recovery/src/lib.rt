@@ -105,12 +105,9 @@ impl Session {
     {
         let mesh = self.mesh;
         let plan = self.plan;
-        let directions = plan.directions;
         let cut = self.cut;
         let flood = self.flood;
-        let states = flood.states;
-        let reached = flood.reached;
-        formed::record_answer(mesh, &directions, cut, &states, &reached)
+        formed::record_answer(mesh, &plan.directions, cut, &flood.states, &flood.reached)
     }
 
     // The topology under the cut; under a cut of link 0 where none stands.
@@ -119,9 +116,8 @@ impl Session {
     {
         let mesh = self.mesh;
         let plan = self.plan;
-        let directions = plan.directions;
         let cut = self.cut;
-        topology::under_cut(mesh, &directions, formed::cut_link(cut))
+        topology::under_cut(mesh, &plan.directions, formed::cut_link(cut))
     }
 
     // 01's start on a mesh and a plan: a fresh session, its record tested as in each call; all zeros with no cut on a refusal.
@@ -144,19 +140,18 @@ impl Session {
     pub fn cut(self, link: u16) -> Change
         ensures { λ r. ⌜ r ≡ afterCut self link ⌝ }
     {
-        let mesh = self.mesh;
         let before = self.cut;
-        let answer = refusals::cut_answer(self.tested(), mesh.count, before, link);
+        let answer = refusals::cut_answer(self.tested(), self.mesh.count, before, link);
         let Answer::Accepted = answer else {
             return Change {
                 session: self,
                 answer,
             };
         };
+        let mesh = self.mesh;
         let plan = self.plan;
-        let directions = plan.directions;
         let quiet = self.flood;
-        let flood = flooding::begin(topology::under_cut(mesh, &directions, link), quiet);
+        let flood = flooding::begin(topology::under_cut(mesh, &plan.directions, link), quiet);
         let cut = Cut::Link(link);
         let session = Session {
             mesh,
@@ -171,11 +166,10 @@ impl Session {
     pub fn deliver(self, link: u16) -> Delivery
         ensures { λ r. ⌜ r ≡ afterDelivery self link ⌝ }
     {
-        let mesh = self.mesh;
         let cut = self.cut;
         let flood = self.flood;
         let states = flood.states;
-        let a = refusals::deliver_answer(self.tested(), mesh.count, cut, &states, link);
+        let a = refusals::deliver_answer(self.tested(), self.mesh.count, cut, &states, link);
         if let Answer::Refused { number, place } = a {
             let answer = Delivered::Refused { number, place };
             return Delivery {
@@ -233,18 +227,18 @@ impl Session {
     pub fn mend(self, link: u16) -> Change
         ensures { λ r. ⌜ r ≡ afterMend self link ⌝ }
     {
-        let mesh = self.mesh;
         let cut = self.cut;
         let flood = self.flood;
         let states = flood.states;
-        let rest = refusals::is_resting(mesh.count, states);
-        let answer = refusals::mend_answer(self.tested(), mesh.count, cut, rest, link);
+        let rest = refusals::is_resting(self.mesh.count, states);
+        let answer = refusals::mend_answer(self.tested(), self.mesh.count, cut, rest, link);
         let Answer::Accepted = answer else {
             return Change {
                 session: self,
                 answer,
             };
         };
+        let mesh = self.mesh;
         let plan = self.plan;
         let session = Session::fresh(mesh, plan);
         Change { session, answer }
@@ -254,16 +248,15 @@ impl Session {
     pub fn status(self, link: u16) -> Status
         ensures { λ r. ⌜ r ≡ statusOf self link ⌝ }
     {
-        let mesh = self.mesh;
-        let a = refusals::status_answer(self.tested(), mesh.count, link);
+        let a = refusals::status_answer(self.tested(), self.mesh.count, link);
         if let Answer::Refused { number, place } = a {
             return Status::Refused { number, place };
         }
         let flood = self.flood;
         let states = flood.states;
-        let under_way = states::under_way(mesh.count, states);
+        let under_way = states::under_way(self.mesh.count, states);
         let cut = self.cut;
-        let route = route_length(mesh.count, cut, states, under_way);
+        let route = route_length(self.mesh.count, cut, states, under_way);
         let state = states[link as usize];
         Status::Link {
             state,
@@ -282,10 +275,9 @@ impl Session {
             let route = no_route();
             return Routed { route, answer };
         };
-        let mesh = self.mesh;
         let flood = self.flood;
         let states = flood.states;
-        if !refusals::is_resting(mesh.count, states) {
+        if !refusals::is_resting(self.mesh.count, states) {
             let route = no_route();
             return Routed { route, answer };
         }

@@ -68,11 +68,13 @@ pub fn under_cut(mesh: Mesh, directions: &[u8; 256], k: u16) -> Topology
     fill_ends(mesh, directions, &mut tails, &mut heads);
     let mut open = tails;
     close(&mut open, k);
+    let source = end_of(&heads, k);
+    let target = end_of(&tails, k);
     Topology {
         nodes: mesh.nodes,
         count: mesh.count,
-        source: end_of(&heads, k),
-        target: end_of(&tails, k),
+        source,
+        target,
         tails,
         heads,
         open,

@@ -1,5 +1,4 @@
 -- `refusals::is_busy` meets its contract: past the end a state counts as 0, which is not under way.
-use mathlib.Core.Path.{sym}
 use lib.ListN.{List·getD-eq-default}
 use denote.Ref.{now}
 use borrow.Author.Needs.{needs}

@@ -1,9 +1,7 @@
 -- `topology::fill_ends` meets its contract. The loop keeps that the entries below i are filled and the others as they were.
-use Prim.Native.Nat.{_-_, _≤_, min}
+use Prim.Native.Nat.{_-_, _≤_}
 use mathlib.Core.Path.{_≡_, sym, _∙_}
-use mathlib.Core.List.{List}
 use native.Mathlib.Omega.{arith}
-use lib.ListN.{length}
 use borrow.Author.Needs.{needs}
 use Rattle.scan.specs.Sweep.{sweep-none, sweep-turn}
 use Rattle.mesh.specs.declared.Plan.{Plan}

@@ -9,9 +9,9 @@ use Rattle.recovery.proofs.Session.cut.Statement.{statement}
 use Rattle.recovery.proofs.Session.cut.Tie as tie
 
 -- the answer is the session's
-answered : (c : tie.After-cut-answer) → let a = c .before .before .before .args in c .cut-answer .result ≡ cutAnswer (a .self) (a .link)
+answered : (c : tie.After-cut-answer) → let a = c .before .before .args in c .cut-answer .result ≡ cutAnswer (a .self) (a .link)
 answered c =
-    let a = c .before .before .before .args in
+    let a = c .before .before .args in
     c .cut-answer .ensures ∙ ap (λ (t : Answer). refusals.cutAnswer t (a .self .mesh .count) (a .self .cut) (a .link)) (c .before .tested .ensures)
 
 tested-requires : tie.Need-tested-requires
@@ -39,10 +39,10 @@ begin-requires c κs = search needs
 returns-2 : tie.Need-returns-2
 unfolding afterCut
 returns-2 c =
-    let d = c .before .before .before .before .before .before in
+    let d = c .before .before .before .before .before .before .before in
     let t = d .enum-told .given .1 in
     let e = answered (d .before .before) in
-    let a = d .before .before .before .before .before .args in
+    let a = d .before .before .before .before .args in
     change-goes e _ _ _ t (cut-made (a .self) (a .link) _ _ (sym e ∙ t) (c .before .under-cut .ensures) (c .begin .ensures))
 
 pub cut-spec : {M : Type 1} → statement M

@@ -9,10 +9,10 @@ use Rattle.recovery.proofs.Session.deliver.Statement.{statement}
 use Rattle.recovery.proofs.Session.deliver.Tie as tie
 
 -- the answer is the session's
-answered : (c : tie.After-deliver-answer) → let a = c .before .before .before .before .before .before .args in
+answered : (c : tie.After-deliver-answer) → let a = c .before .before .before .before .before .args in
     c .deliver-answer .result ≡ deliverAnswer (a .self) (a .link)
 answered c =
-    let a = c .before .before .before .before .before .before .args in
+    let a = c .before .before .before .before .before .args in
     let s = a .self in
     c .deliver-answer .ensures
     ∙ ap (λ (t : Answer). refusals.deliverAnswer t (s .mesh .count) (s .cut) (s .flood .states) (a .link)) (c .before .before .tested .ensures)

@@ -9,9 +9,9 @@ use Rattle.recovery.proofs.Session.mend.Statement.{statement}
 use Rattle.recovery.proofs.Session.mend.Tie as tie
 
 -- the answer is the session's
-answered : (c : tie.After-mend-answer) → let a = c .before .before .before .before .before .before .args in c .mend-answer .result ≡ mendAnswer (a .self) (a .link)
+answered : (c : tie.After-mend-answer) → let a = c .before .before .before .before .before .args in c .mend-answer .result ≡ mendAnswer (a .self) (a .link)
 answered c =
-    let a = c .before .before .before .before .before .before .args in
+    let a = c .before .before .before .before .before .args in
     let s = a .self in
     c .mend-answer .ensures
     ∙ (λ i. refusals.mendAnswer (c .before .tested .ensures i) (s .mesh .count) (s .cut) (c .before .before .is-resting .ensures i) (a .link))
@@ -41,7 +41,7 @@ fresh-requires c κs = search needs
 
 returns-2 : tie.Need-returns-2
 unfolding afterMend
-returns-2 c = let d = c .before .before in change-goes (answered (d .before .before)) _ _ _ (d .enum-told .given .1) (c .fresh .ensures)
+returns-2 c = let d = c .before .before .before in change-goes (answered (d .before .before)) _ _ _ (d .enum-told .given .1) (c .fresh .ensures)
 
 pub mend-spec : {M : Type 1} → statement M
 mend-spec =

@@ -21,9 +21,9 @@ accepted : (c : tie.After-enum-told) → runAnswer (c .before .before .before .b
 accepted c = sym (answered (c .before .before)) ∙ c .enum-told .given .1
 
 -- the count says whether the session is at rest
-rests : (c : tie.After-is-resting) → c .is-resting .result ≡ resting (c .before .before .before .before .before .before .before .before .args .self)
+rests : (c : tie.After-is-resting) → c .is-resting .result ≡ resting (c .before .before .before .before .before .before .before .args .self)
 rests c =
-    let d = c .before .before .before .before in
+    let d = c .before .before .before in
     let s = d .before .before .before .before .args .self in
     c .is-resting .ensures ∙ resting-counted s (record-few s (run-accepted s (accepted d) .0))
 
@@ -56,7 +56,7 @@ returns-2 : tie.Need-returns-2
 unfolding routed
 returns-2 c =
     let b = c .before in
-    let d = b .before .before .before .before .before in
+    let d = b .before .before .before .before in
     let busy = sym (rests (b .before)) ∙ not-true _ (b .if1 .taken) in
     routed-goes (answered (d .before .before)) _ _ (d .enum-told .given .1) (route-busy _ _ busy (c .no-route2 .ensures))
 
@@ -71,7 +71,7 @@ unfolding routed
 returns-3 c =
     let t = c .before in
     let b = t .before in
-    let d = b .before .before .before .before .before in
+    let d = b .before .before .before .before in
     let s = d .before .before .before .before .args .self in
     let rest = sym (rests (b .before)) ∙ not-false _ (b .if1 .left) in
     routed-goes (answered (d .before .before)) _ _ (d .enum-told .given .1)

@@ -14,12 +14,12 @@ use Rattle.recovery.proofs.Session.status.Statement.{statement}
 use Rattle.recovery.proofs.Session.status.Tie as tie
 
 -- the answer is the session's
-answered : (c : tie.After-status-answer) → let a = c .before .before .before .args in c .status-answer .result ≡ statusAnswer (a .self) (a .link)
+answered : (c : tie.After-status-answer) → let a = c .before .before .args in c .status-answer .result ≡ statusAnswer (a .self) (a .link)
 answered c =
-    let a = c .before .before .before .args in
+    let a = c .before .before .args in
     c .status-answer .ensures ∙ ap (λ (t : Answer). refusals.statusAnswer t (a .self .mesh .count) (a .link)) (c .before .tested .ensures)
 
-accepted : (c : tie.After-enum-told) → let a = c .before .before .before .before .before .args in statusAnswer (a .self) (a .link) ≡ Accepted
+accepted : (c : tie.After-enum-told) → let a = c .before .before .before .before .args in statusAnswer (a .self) (a .link) ≡ Accepted
 accepted c = sym (answered (c .before .before)) ∙ c .enum-told .given .1
 
 tested-requires : tie.Need-tested-requires
@@ -47,7 +47,7 @@ route-length-requires c κs = search needs
 array-read-state : tie.Need-array-read-state
 array-read-state c =
     let d = c .before .before .before .before in
-    let a = d .before .before .before .before .before .args in
+    let a = d .before .before .before .before .args in
     let (r, below) = status-accepted (a .self) (a .link) (accepted d) in
     let few : a .self .mesh .count ≤ 256 = record-few (a .self) r in
     omega arith
@@ -55,7 +55,7 @@ array-read-state c =
 returns-2 : tie.Need-returns-2
 returns-2 c =
     let d = c .before .before .before .before in
-    let a = d .before .before .before .before .before .args in
+    let a = d .before .before .before .before .args in
     status-made (a .self) (a .link) _ _ (accepted d) (c .before .under-way .ensures) (c .route-length .ensures)
 
 pub status-spec : {M : Type 1} → statement M
