@@ -7,6 +7,7 @@ use flood::Route;
 use mesh::Answer;
 use recovery::Report;
 use recovery::Session;
+use streams::held::SIZE;
 use streams::held::end_line;
 use streams::held::put_field;
 use streams::held::put_number;
@@ -48,7 +49,7 @@ fn print_refusal(a: Answer) {
 
 // The lines of the mesh, of each link, and of each cut.
 fn print_session(fresh: Session) {
-    let mut out = io::large_buffer();
+    let mut out = [0u8; SIZE];
     put_session(&mut out, fresh);
 }
 
@@ -67,6 +68,7 @@ struct Row {
     direction: u64,
 }
 
+// Those of link k, zeros past the last entry.
 fn planned(s: Session, k: u16) -> Row {
     if 255 < k {
         return Row {

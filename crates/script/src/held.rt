@@ -18,9 +18,15 @@ pub(crate) fn hold(
     if letters.len() <= held {
         return held;
     }
+    if lent.len() <= held {
+        return held;
+    }
+    if numbers.len() <= held {
+        return held;
+    }
     letters[held] = letter;
-    store(lent, held, lent_letter(letter));
-    store_number(numbers, held, next_number(letter));
+    lent[held] = lent_letter(letter);
+    numbers[held] = next_number(letter);
     held + 1
 }
 
@@ -31,19 +37,6 @@ fn lent_letter(letter: u8) -> u8 {
         b'D' => b'd',
         b'M' => b'm',
         _ => letter,
-    }
-}
-
-// Stores v at index i where there is one.
-fn store(entries: &mut [u8], i: usize, v: u8) {
-    if i < entries.len() {
-        entries[i] = v;
-    }
-}
-
-fn store_number(entries: &mut [u32], i: usize, v: u32) {
-    if i < entries.len() {
-        entries[i] = v;
     }
 }
 

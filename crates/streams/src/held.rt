@@ -2,8 +2,10 @@
 // buffer's end is left out.
 use libc::STDOUT_FILENO;
 
-// Where a buffer of 65,536 bytes counts as full: what is left holds any line of up to 2,048 bytes.
-const FULL: usize = 63488;
+// The size of a buffer for many lines, and where it counts as full: what is left holds any line of up to 2,048 bytes.
+pub const SIZE: usize = 16384;
+
+const FULL: usize = 14336;
 
 fn put_byte(out: &mut [u8], at: usize, b: u8) -> usize {
     if at < out.len() {
