@@ -1,5 +1,4 @@
 // A run on arrays that are lent, from the source x to the target y. Link i may be offered where starts[i] is its tail.
-ghost use mathlib.Core.Path.{_≡_};
 ghost use Prim.Native.Nat.{ℕ, min};
 ghost use Rattle.flood.specs.Lent.{graph, failure, flood};
 ghost use Rattle.flooding.specs.Ended.{Ended};

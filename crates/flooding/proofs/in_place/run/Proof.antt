@@ -1,6 +1,6 @@
 -- `flooding::in_place::run` meets its contract. The loop keeps what is left of the machine's run, and that no link below `from` is under way.
 use Prim.Native.Nat.{ℕ, _-_, _≤_, min}
-use mathlib.Core.Path.{_≡_, _∙_}
+use mathlib.Core.Path.{_∙_}
 use native.Mathlib.Omega.{arith}
 use borrow.Author.Needs.{needs}
 use Rattle.scan.specs.Lowest.{None, none-yet}

@@ -4,7 +4,6 @@ use mathlib.Core.Path.{_≡_, refl}
 use mathlib.Core.Bool.{Bool}
 use native.Mathlib.Omega.{arith}
 use denote.Ref.{now}
-use borrow.Author.Needs.{needs}
 use Rattle.scan.specs.Lowest.{any, any-zero, any-turn}
 use Rattle.flood.specs.Lent.{taken}
 use Rattle.states.proofs.search.taken_within.Statement.{statement}
