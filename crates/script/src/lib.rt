@@ -31,23 +31,23 @@ pub fn run_calls(s: Session, calls: u16, both: bool) -> Copies {
     let mut letters = [0u8; MOST_CALLS];
     let mut lent = [0u8; MOST_CALLS];
     let mut numbers = [0u32; MOST_CALLS];
-    let copies = Copies {
-        by_value: s,
-        in_place: s,
-        both,
-    };
-    run_lists(copies, calls, &mut letters, &mut lent, &mut numbers)
+    run_lists(s, both, calls, &mut letters, &mut lent, &mut numbers)
 }
 
 // The same, with room for the calls that are read and not made yet.
 fn run_lists(
-    begun: Copies,
+    s: Session,
+    both: bool,
     calls: u16,
     letters: &mut [u8],
     lent: &mut [u8],
     numbers: &mut [u32],
 ) -> Copies {
-    let mut copies = begun;
+    let mut copies = Copies {
+        by_value: s,
+        in_place: s,
+        both,
+    };
     let mut held: usize = 0;
     let mut i: u16 = 0;
     while i < calls {

@@ -7,10 +7,10 @@ use Rattle.script.proofs.run_lists.Statement.{statement}
 use Rattle.script.proofs.run_lists.Tie as tie
 
 abbrev Inv-loop : tie.InvT-loop
-Inv-loop calls letters₀ lent₀ numbers₀ copies₀ held₀ i₀ letters lent numbers copies held i = (i ≤ calls) × (length letters ≡ length letters₀) × (length lent ≡ length lent₀) × (length numbers ≡ length numbers₀)
+Inv-loop both calls letters₀ lent₀ numbers₀ copies₀ held₀ i₀ letters lent numbers copies held i = (i ≤ calls) × (length letters ≡ length letters₀) × (length lent ≡ length lent₀) × (length numbers ≡ length numbers₀)
 
 abbrev μ-loop : tie.MeasureT-loop
-μ-loop calls letters₀ lent₀ numbers₀ copies₀ held₀ i₀ letters lent numbers copies held i = calls - i
+μ-loop both calls letters₀ lent₀ numbers₀ copies₀ held₀ i₀ letters lent numbers copies held i = calls - i
 
 loop-holds : tie.Need-loop-holds Inv-loop μ-loop
 loop-holds c = search needs
