@@ -1,6 +1,7 @@
 // The jobs.
 use crate::sessions;
 use codec::Decoded;
+use codec::LONGEST_BOOK;
 use libc::STDOUT_FILENO;
 use mesh::Answer;
 use mesh::Mesh;
@@ -113,7 +114,7 @@ fn decode_often(book: &mut [u8], place: usize, repeats: u32) -> Decoded {
 }
 
 fn encode_job(m: Mesh, repeats: u32) {
-    let mut out = [0u8; 2400];
+    let mut out = [0u8; LONGEST_BOOK];
     let length = encode_often(m, &mut out, repeats);
     io::write_all(STDOUT_FILENO, b"E ");
     io::print_decimal(STDOUT_FILENO, read_back(&out, length) as u64);

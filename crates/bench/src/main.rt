@@ -4,6 +4,7 @@
 mod job;
 mod sessions;
 
+use codec::LONGEST_BOOK;
 use libc::STDIN_FILENO;
 
 fn main() {
@@ -12,7 +13,7 @@ fn main() {
         return;
     }
     let repeats = job::four(head[1], head[2], head[3], head[4]);
-    let mut space = [0u8; 2400];
+    let mut space = [0u8; LONGEST_BOOK + 1];
     let length = io::read_full(STDIN_FILENO, &mut space);
     job::run(head[0], repeats, &mut space[..length]);
 }

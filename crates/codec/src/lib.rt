@@ -9,6 +9,9 @@ mod records;
 use mesh::Answer;
 use mesh::Mesh;
 
+// The length of the longest book: an output of this length has room for any.
+pub const LONGEST_BOOK: usize = writer::LONGEST_BOOK;
+
 // What reading gives: the mesh, all zero on a refusal.
 pub struct Decoded {
     pub mesh: Mesh,

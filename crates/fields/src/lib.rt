@@ -3,8 +3,8 @@ use mesh::Link;
 ghost use mathlib.Core.Path.{_≡_};
 ghost use mathlib.Core.Bool.{cond};
 ghost use Prim.Native.Nat.{_≤_};
-ghost use Rattle.fields.specs.Field.{field, differs, bitMap, odd};
-ghost use Rattle.fields.specs.Record.{asLink, fieldsOf, longestRecord, recordLength};
+ghost use Rattle.fields.specs.Field.{field, sum, differs, bitMap, odd, extent};
+ghost use Rattle.fields.specs.Record.{asLink, fieldsOf, widths, longestRecord, recordLength};
 ghost use Rattle.scan.specs.Total.{bit};
 
 // How many bytes each field takes.
@@ -45,6 +45,14 @@ fn taken(b: u8, w: usize) -> usize
     if b % 2 == 1 { w } else { 0 }
 }
 
+// How many bytes the fields take whose bits stand in b.
+fn fields_length(b: u8) -> usize
+    ensures value { λ r. ⌜ r ≡ extent widths b ⌝ }
+    ensures within { λ r. ⌜ r ≤ sum widths ⌝ }
+{
+    taken(b, LOW) + taken(b / 2, HIGH) + taken(b / 2 / 2, LENGTH) + taken(b / 2 / 2 / 2, PAIR)
+}
+
 // The length of a record with the bit map b; 0 where a reserved bit stands.
 pub fn record_length(b: u8) -> usize
     ensures value { λ r. ⌜ r ≡ recordLength b ⌝ }
@@ -53,7 +61,7 @@ pub fn record_length(b: u8) -> usize
     if reserved(b) {
         return 0;
     }
-    1 + taken(b, LOW) + taken(b / 2, HIGH) + taken(b / 2 / 2, LENGTH) + taken(b / 2 / 2 / 2, PAIR)
+    1 + fields_length(b)
 }
 
 // 1 where a field differs from its absent value, else 0.

@@ -53,19 +53,23 @@ pub(crate) fn fields_at(s: &[u8], prev: Link) -> Fields
     requires { ⌜ recordLength (getD (now s) 0 0) ≤ length (now s) ⌝ }
     ensures { λ r. ⌜ asLink r ≡ linkOf prev (now (s .entry)) ⌝ }
 {
+    let bits = s[0];
     let start = Place {
-        bits: s[0],
+        bits,
         at: 1,
         value: 0,
     };
     let low = next_field(s, start, LOW, prev.low as u32);
+    let low_end = low.value as u8;
     let high = next_field(s, low, HIGH, low.value + 1);
+    let high_end = high.value as u16;
     let length = next_field(s, high, LENGTH, 0);
+    let metres = length.value as u16;
     let pair = next_field(s, length, PAIR, 0);
     Fields {
-        low: low.value as u8,
-        high: high.value as u16,
-        length: length.value as u16,
+        low: low_end,
+        high: high_end,
+        length: metres,
         pair: pair.value,
     }
 }

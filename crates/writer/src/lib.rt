@@ -12,7 +12,7 @@ ghost use mathlib.Core.Path.{_≡_};
 ghost use Rattle.writer.specs.Written.{bookLength, bookStored};
 
 // The length of the longest book: an output of this length has room for any.
-const MOST_BYTES: usize = 4 + 256 * LONGEST_RECORD;
+pub const LONGEST_BOOK: usize = 4 + 256 * LONGEST_RECORD;
 
 // Stores the book of m at the front of out where it fits, and answers its length. Bytes past the book stay as they were, and
 // all of out where it does not fit; with more than 256 links there is no book, and the length is 0.
@@ -23,7 +23,7 @@ pub fn write_book(out: &mut [u8], m: Mesh) -> usize
     if !count_fits(m.count) {
         return 0;
     }
-    if out.len() < MOST_BYTES {
+    if out.len() < LONGEST_BOOK {
         let length = book_length(m);
         if out.len() < length {
             return length;

@@ -23,9 +23,9 @@ use Rattle.fields.specs.Record.{recordLength, linkOf}
 use Rattle.codec.specs.Book.{longestBook, version, recordsOf, bookOf, encodeAnswer, encoded, outputAfter, recordsAnswer, linksOf, bookAnswer, meshOf, decoded}
 use Rattle.codec.specs.Laws.Accepted.{records-accepted, book-accepted, decoded-mesh}
 use Rattle.reader.specs.Laws.Header.{GoodHeader}
-use Rattle.mesh.specs.Laws.Zeros.{all-zero}
+use Rattle.mesh.specs.Laws.Zeros.{all-zero, zero-in-range}
 use Rattle.mesh.specs.Laws.GoodMesh.{link-anywhere, GoodMesh, accepted-mesh}
-use Rattle.fields.specs.Laws.Record.{record-read, link-in-range, zero-in-range}
+use Rattle.fields.specs.Laws.Record.{record-read, link-in-range}
 use Rattle.codec.specs.Laws.Written.{decoded-book, book-most}
 
 -- ---- the records of a book

@@ -14,7 +14,7 @@ use Rattle.scan.specs.Bytes.{AreBytes, number-below, number-append}
 use Rattle.scan.specs.Test.{branch}
 use Rattle.mesh.specs.declared.Link.{Link}
 use Rattle.mesh.specs.declared.Answer.the-variants.{Accepted}
-use Rattle.mesh.specs.Mesh.{linkAnswer, zeroLink}
+use Rattle.mesh.specs.Mesh.{linkAnswer}
 use Rattle.mesh.specs.WellFormed.{LinkInRange}
 use Rattle.mesh.specs.Laws.Answer.{must-accepted}
 use Rattle.mesh.specs.Laws.GoodMesh.{ends-below}
@@ -140,9 +140,6 @@ module _ (n : ℕ) (p : Link) (at : ℕ) (s : List ℕ) (small : AreBytes s) (g 
   link-in-range h =
       let (low, high) = ends-below n p (linkOf p s) at (g .fits) in
       record { low = omega arith; high = omega arith; length = field-below s small 2; pair = field-below s small 3 }
-
-pub zero-in-range : LinkInRange zeroLink
-zero-in-range = record { low = omega arith; high = omega arith; length = omega arith; pair = omega arith }
 
 -- ---- bytes past it
 

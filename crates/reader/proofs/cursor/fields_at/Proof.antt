@@ -16,10 +16,10 @@ abbrev start-1 : tie.After-next-field → tie.Start
 start-1 c = c .before .before .before .before
 
 abbrev start-2 : tie.After-next-field2 → tie.Start
-start-2 c = start-1 (c .before .before)
+start-2 c = start-1 (c .before .before .before)
 
 abbrev start-3 : tie.After-next-field3 → tie.Start
-start-3 c = start-2 (c .before)
+start-3 c = start-2 (c .before .before)
 
 abbrev bytes : tie.Start → List ℕ
 bytes c = now (c .args .s)
@@ -29,17 +29,17 @@ after-1 : (c : tie.After-next-field) → Next (bytes (start-1 c)) 1 (c .next-fie
 after-1 c = let e = c .next-field .ensures in next-after (next-first (bytes (start-1 c))) (e .0) (e .1 .0)
 
 after-2 : (c : tie.After-next-field2) → Next (bytes (start-2 c)) 2 (c .next-field2 .result .bits) (c .next-field2 .result .at)
-after-2 c = let e = c .next-field2 .ensures in next-after (after-1 (c .before .before)) (e .0) (e .1 .0)
+after-2 c = let e = c .next-field2 .ensures in next-after (after-1 (c .before .before .before)) (e .0) (e .1 .0)
 
 after-3 : (c : tie.After-next-field3) → Next (bytes (start-3 c)) 3 (c .next-field3 .result .bits) (c .next-field3 .result .at)
-after-3 c = let e = c .next-field3 .ensures in next-after (after-2 (c .before)) (e .0) (e .1 .0)
+after-3 c = let e = c .next-field3 .ensures in next-after (after-2 (c .before .before)) (e .0) (e .1 .0)
 
 -- a byte, or the low end of the link before
 low-is-byte : (c : tie.After-next-field) → c .next-field .result .value < 256
 low-is-byte c = ⊎-elim (λ h. h) (λ e. omega arith) (c .next-field .ensures .1 .1 .1)
 
-shared-slice-read-t9 : tie.Need-shared-slice-read-t9
-shared-slice-read-t9 c = search needs
+shared-slice-read-bits : tie.Need-shared-slice-read-bits
+shared-slice-read-bits c = search needs
 
 cast-next-field : tie.Need-cast-next-field
 cast-next-field c = search needs
@@ -48,54 +48,53 @@ next-field-requires : tie.Need-next-field-requires
 next-field-requires c κs = let s = c .before .before .before in (omega arith, next-within (next-first (bytes s)) (s .pre .1 .0) (s .pre .1 .1))
 
 add-next-field : tie.Need-add-next-field
-add-next-field c = omega (arith, low-is-byte (c .before))
+add-next-field c = omega (arith, low-is-byte (c .before .before))
 
 next-field-requires-2 : tie.Need-next-field-requires-2
-next-field-requires-2 c κs = let s = start-1 (c .before) in (omega arith, next-within (after-1 (c .before)) (s .pre .1 .0) (s .pre .1 .1))
+next-field-requires-2 c κs = let s = start-1 (c .before .before) in (omega arith, next-within (after-1 (c .before .before)) (s .pre .1 .0) (s .pre .1 .1))
 
 next-field-requires-3 : tie.Need-next-field-requires-3
-next-field-requires-3 c κs = let s = start-2 c in (omega arith, next-within (after-2 c) (s .pre .1 .0) (s .pre .1 .1))
+next-field-requires-3 c κs = let s = start-2 (c .before) in (omega arith, next-within (after-2 (c .before)) (s .pre .1 .0) (s .pre .1 .1))
 
 next-field-requires-4 : tie.Need-next-field-requires-4
-next-field-requires-4 c κs = let s = start-3 c in (omega arith, next-within (after-3 c) (s .pre .1 .0) (s .pre .1 .1))
+next-field-requires-4 c κs = let s = start-3 (c .before) in (omega arith, next-within (after-3 (c .before)) (s .pre .1 .0) (s .pre .1 .1))
 
-cast-t9 : tie.Need-cast-t9
-cast-t9 c = omega (arith, low-is-byte (c .before .before .before .before .before))
+cast-low-end : tie.Need-cast-low-end
+cast-low-end c = omega (arith, low-is-byte (c .before))
 
-cast-t11 : tie.Need-cast-t11
-cast-t11 c =
-    let h = c .before .before .before .before in
-    ⊎-elim (λ b. omega arith) (λ e. omega (arith, low-is-byte (h .before .before))) (h .next-field2 .ensures .1 .1 .1)
+cast-high-end : tie.Need-cast-high-end
+cast-high-end c =
+    let h = c .before in
+    ⊎-elim (λ b. omega arith) (λ e. omega (arith, low-is-byte (h .before .before .before))) (h .next-field2 .ensures .1 .1 .1)
 
-cast-t12 : tie.Need-cast-t12
-cast-t12 c = ⊎-elim (λ b. omega arith) (λ e. omega arith) (c .before .before .before .before .next-field3 .ensures .1 .1 .1)
+cast-metres : tie.Need-cast-metres
+cast-metres c = ⊎-elim (λ b. omega arith) (λ e. omega arith) (c .before .next-field3 .ensures .1 .1 .1)
 
 returns : tie.Need-returns
 unfolding linkOf
 returns c =
-    let f4 = c .before .before .before in
-    let f3 = f4 .before in
-    let f2 = f3 .before in
-    let f1 = f2 .before .before in
+    let f3 = c .before .before in
+    let f2 = f3 .before .before in
+    let f1 = f2 .before .before .before in
     simp (
       next-value (next-first (bytes (start-1 f1))) _ (f1 .next-field .ensures .1 .1 .0),
       next-value (after-1 f1) _ (f2 .next-field2 .ensures .1 .1 .0),
       next-value (after-2 f2) _ (f3 .next-field3 .ensures .1 .1 .0),
-      next-value (after-3 f3) _ (f4 .next-field4 .ensures .1 .1 .0),
+      next-value (after-3 f3) _ (c .next-field4 .ensures .1 .1 .0),
     )
 
 pub fields-at-spec : {M : Type 1} → statement M
 fields-at-spec =
     tie.close
     (tie.spec
-    shared-slice-read-t9
+    shared-slice-read-bits
     cast-next-field
     next-field-requires
+    cast-low-end
     add-next-field
     next-field-requires-2
+    cast-high-end
     next-field-requires-3
+    cast-metres
     next-field-requires-4
-    cast-t9
-    cast-t11
-    cast-t12
     returns)
