@@ -7,8 +7,8 @@ use streams::print::answer_line;
 use streams::print::hex;
 use streams::print::line;
 
-// The largest output that is lent.
-const MOST_BYTES: usize = 2400;
+// The largest output that is lent, and the longest book of the corpus.
+pub const MOST_BYTES: usize = 2400;
 
 // Checks m, encodes it into `room` bytes a5, at most 2,400, and shows them afterwards.
 pub fn show_written(m: Mesh, room: usize) {

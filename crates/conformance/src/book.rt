@@ -1,14 +1,12 @@
 // A book, shown or listed.
 use books::show_book;
+use books::written::MOST_BYTES;
 use streams::input::next_bytes;
 use streams::input::next_two;
 use streams::print::end;
 use streams::print::field;
 use streams::print::line;
 use streams::print::number;
-
-// The longest book of a case.
-pub(crate) const MOST_BYTES: usize = 2400;
 
 // A book, and what the library reads from it and writes for it.
 pub(crate) fn run_book(case: u64) {

@@ -1,6 +1,6 @@
 // A script: a list of calls on a session. The list is made on two copies of it: on one by value, and on the other in place where the
 // call has that form. Lines of the second begin with `in-place`.
-use crate::book::MOST_BYTES;
+use books::written::MOST_BYTES;
 use clients::session::begin;
 use clients::session::start;
 use mesh::Mesh;
