@@ -1,10 +1,10 @@
--- `listing::put_links` is safe and ends.
+-- `lines::put_links` is safe and ends.
 use borrow.Author.Needs.{needs}
 use Prim.Native.Nat.{_-_, _≤_}
 use mathlib.Core.Path.{_≡_}
 use lib.ListN as lists
-use Rattle.listing.proofs.put_links.Statement.{statement}
-use Rattle.listing.proofs.put_links.Tie as tie
+use Rattle.lines.proofs.put_links.Statement.{statement}
+use Rattle.lines.proofs.put_links.Tie as tie
 
 abbrev Inv-loop : tie.InvT-loop
 Inv-loop out₀ at fresh count next₀ k₀ out next k = (lists.length out ≡ lists.length out₀) × (k ≤ count)

@@ -1,10 +1,10 @@
--- `listing::put_route` is safe and ends.
+-- `lines::put_route` is safe and ends.
 use borrow.Author.Needs.{needs}
 use Prim.Native.Nat.{_-_, _≤_}
 use mathlib.Core.Path.{_≡_}
 use lib.ListN as lists
-use Rattle.listing.proofs.put_route.Statement.{statement}
-use Rattle.listing.proofs.put_route.Tie as tie
+use Rattle.lines.proofs.put_route.Statement.{statement}
+use Rattle.lines.proofs.put_route.Tie as tie
 
 abbrev Inv-loop : tie.InvT-loop
 Inv-loop out₀ at route length next₀ i₀ out next i = (lists.length out ≡ lists.length out₀) × (i ≤ 256)
