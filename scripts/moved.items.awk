@@ -39,7 +39,7 @@ FNR == 1 {
     gsub(/\//, "::", module)
     type = ""; head = 0; depth = 0; modules = 0
 }
-/^[ \t]*$/ || /^[ \t]*(--|\/\/)/ || /^(ghost )?use / || /^ *open / || /^(pub )?mod / { next }
+/^[ \t]*$/ || /^[ \t]*(--|\/\/)/ || /^((ghost|pub|unfoldable) )*use / || /^ *open / || /^(pub )?mod / { next }
 whole {
     if (kind == "") begin("proof", called)
     add($0)

@@ -14,7 +14,11 @@ function changed(before, after,    parts, n, i, left, added, removed) {
     for (i = 1; i <= n; i++) if (left[parts[i]] > 0) { left[parts[i]]--; removed-- } else added++
     return "+" added " -" removed
 }
-function common(before, after) { return changed(before, after) !~ ("^[+]" count_lines(after) " ") }
+# how many lines of the later text stand in the earlier one
+function common(before, after,    parts) {
+    split(changed(before, after), parts, /[+ ]/)
+    return count_lines(after) - parts[2]
+}
 function lines(n) { return "(" n (n == 1 ? " line)" : " lines)") }
 function put(list, key, what) { list[key] = list[key] == "" ? what : list[key] ", " what }
 FNR == NR {
@@ -31,22 +35,29 @@ FNR == NR {
     new_key[n_new] = $1 SUBSEP $2 SUBSEP $3 SUBSEP $4
     if (!($2 in seen)) { seen[$2] = 1; crates[++n_crates] = $2 }
 }
-# an old item, not yet taken, that stands for new item i: same text anywhere, or the same name in the crate, or anywhere
+# the last word of a name: a function or a proof without its module
+function base(name) {
+    sub(/.*(::|\/)/, "", name)
+    return name
+}
+# an old item, not yet taken, that stands for new item i: the same text under the same name or in another module; the same name in
+# the crate; and half of its lines at least under the same name, or in another module
 function partner(i, how,    j, key) {
     for (j = 1; j <= n_old; j++) {
         key = old_key[j]
-        if (taken[key] || kind_of[key] != new_kind[i] || name_of[key] != new_name[i]) continue
-        if (how == "text" && old_text[key] == new_text[i]) return key
-        if (how == "crate" && crate_of[key] == new_crate[i]) return key
-        if (how == "any" && common(old_text[key], new_text[i])) return key
+        if (taken[key] || kind_of[key] != new_kind[i] || base(name_of[key]) != base(new_name[i])) continue
+        if (how ~ /^name/ && name_of[key] != new_name[i]) continue
+        if (how ~ /text$/ && old_text[key] == new_text[i]) return key
+        if (how ~ /crate$/ && crate_of[key] == new_crate[i]) return key
+        if (how ~ /half$/ && common(old_text[key], new_text[i]) * 2 >= count_lines(new_text[i])) return key
     }
     return ""
 }
 function pair(i, key) { match_of[i] = key; taken[key] = 1 }
 END {
     for (i = 1; i <= n_new; i++) if (new_key[i] in old_text) pair(i, new_key[i])
-    split("text crate any", ways, " ")
-    for (w = 1; w <= 3; w++)
+    split("name-text module-text name-crate name-half module-half", ways, " ")
+    for (w = 1; w <= 5; w++)
         for (i = 1; i <= n_new; i++) if (!(i in match_of)) { key = partner(i, ways[w]); if (key != "") pair(i, key) }
 
     for (i = 1; i <= n_new; i++) {
