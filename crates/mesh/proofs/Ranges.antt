@@ -28,7 +28,7 @@ each-in-range (l ∷ ls) (u ∷ us) q (suc i) = each-in-range ls us (q .1) i
 
 module _ (m : Mesh) (vs : List Val) (owned : Is meshType.the-row m vs) where
   pub entries-are : length (m .links) ≡ 256
-  entries-are = length-mapped _ (m .links) 256 (owned .1 .1 .1 .1 .0 .1 .0 .1)
+  entries-are = length-mapped _ (m .links) 256 (owned .1 .1 .0 .1 .0 .1)
 
   pub in-range : InRange m
-  in-range = record { entries = entries-are; links = each-in-range (m .links) _ (owned .1 .1 .1 .1 .0 .1 .1) }
+  in-range = record { entries = entries-are; links = each-in-range (m .links) _ (owned .1 .1 .0 .1 .1) }

@@ -5,3 +5,4 @@ pub mod Zeros
 pub mod Refused
 pub mod Checked
 pub mod GoodMesh
+pub mod Parts

@@ -2,4 +2,6 @@ pub mod Mesh
 pub mod WellFormed
 pub mod Refusal
 pub mod Arc
+pub mod Parts
+pub mod Quick
 pub mod Laws

@@ -2,11 +2,12 @@
 ghost use mathlib.Core.Path.{_≡_};
 ghost use Rattle.mesh.specs.Mesh.{zeroLink, zeroMesh, meshAnswer, endsAnswer, nodesFit, countFits};
 ghost use Rattle.mesh.specs.WellFormed.{InRange};
+ghost use Rattle.mesh.specs.Parts.{partsAnswer};
 
+mod ends;
 mod links;
 
-use links::links_answer;
-use links::rest_is_zero;
+pub use links::split;
 
 pub struct Link {
     pub low: u8,
@@ -15,10 +16,11 @@ pub struct Link {
     pub pair: u32,
 }
 
+// The links stand first: where a mesh is stored, small fields before them would have them copied twice.
 pub struct Mesh {
+    pub links: [Link; 256],
     pub nodes: u8,
     pub count: u16,
-    pub links: [Link; 256],
 }
 
 // A direction for each link: 0 from its low to its high end, 1 from its high to its low end. Entries past the last link are zero.
@@ -48,9 +50,9 @@ pub fn zero_mesh() -> Mesh
 {
     let l = zero_link();
     Mesh {
+        links: [l; 256],
         nodes: 0,
         count: 0,
-        links: [l; 256],
     }
 }
 
@@ -102,32 +104,41 @@ pub fn ends_answer(nodes: u8, prev: Link, low: usize, high: usize, place: usize)
     Answer::Refused { number: 8, place }
 }
 
-// The mesh checks: 3, 4; each link 7, 6, 8; then 13.
-pub fn check(m: Mesh) -> Answer
-    ensures answer { λ r. ⌜ r ≡ meshAnswer m ⌝ }
-    ensures ranges { λ _. ⌜ InRange m ⌝ }
+// The mesh checks on the parts of a mesh: 3, 4; each link 7, 6, 8; then 13.
+pub fn parts_answer(nodes: u8, count: u16, zeros: bool, ends: &[u16; 256]) -> Answer
+    ensures { λ r. ⌜ r ≡ partsAnswer nodes count zeros (now (ends .entry)) ⌝ }
 {
-    if !nodes_fit(m.nodes) {
+    if !nodes_fit(nodes) {
         return Answer::Refused {
             number: 3,
             place: 0,
         };
     }
-    if !count_fits(m.count) {
+    if !count_fits(count) {
         return Answer::Refused {
             number: 4,
             place: 0,
         };
     }
-    let a = links_answer(m);
+    let a = ends::ends_in_turn(nodes, count as usize, ends);
     let Answer::Accepted = a else {
         return a;
     };
-    if rest_is_zero(m) {
+    if zeros {
         return Answer::Accepted;
     }
     Answer::Refused {
         number: 13,
         place: 0,
     }
+}
+
+// The mesh checks.
+pub fn check(m: Mesh) -> Answer
+    ensures answer { λ r. ⌜ r ≡ meshAnswer m ⌝ }
+    ensures ranges { λ _. ⌜ InRange m ⌝ }
+{
+    let mut ends = [0u16; 256];
+    let zeros = split(m, &mut ends);
+    parts_answer(m.nodes, m.count, zeros, &ends)
 }

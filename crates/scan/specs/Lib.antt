@@ -6,6 +6,7 @@ pub mod Total
 pub mod Distinct
 pub mod Flags
 pub mod Sweep
+pub mod Fill
 pub mod Part
 pub mod Store
 pub mod Storing

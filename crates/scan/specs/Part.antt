@@ -1,5 +1,5 @@
 -- Parts of a list, as loops over the first k elements and slices of a slice have them. Assumes nothing.
-use Prim.Native.Nat.{ℕ, _+_, _-_, _≤_, _<_}
+use Prim.Native.Nat.{ℕ, _+_, _-_, _≤_, _<_, min}
 use mathlib.Core.Path.{_≡_, sym, _∙_, ap}
 use mathlib.Core.List.{List, [], _∷_, map}
 use native.Mathlib.Nat.{add-zero}
@@ -27,6 +27,13 @@ drop-take d l k i h hk =
 -- nothing is left of the first k from k on
 pub drop-take-end : {A : Type 0} (l : List A) (k i : ℕ) → k ≤ i → drop i (take k l) ≡ []
 drop-take-end l k i h = drop-of-length-le (take k l) {i = i} (simp length-take (omega arith))
+
+-- dropping more than there is
+pub drop-min : {A : Type 0} (l : List A) (k i : ℕ) → i ≡ min k (length l) → drop k l ≡ drop i l
+drop-min l k i e = elim (decLt k (length l)) [
+  | yes h ↦ let k-is : k ≡ i = omega arith in rw k-is
+  | no h ↦ drop-of-length-le l {i = k} (omega arith) ∙ sym (drop-of-length-le l {i = i} (omega arith))
+]
 
 -- the slice &s[at..] as a list
 pub part-rest : {A : Type 0} (s : List A) (at : ℕ) → take (length s - at) (drop at s) ≡ drop at s

@@ -50,7 +50,7 @@ loop-again c =
     let b = c .before .before .before in
     let a = b .before .before .args .t1 in
     let lo = b .loop in
-    let sized : length (a .links) ≡ 256 = length-mapped _ (a .links) 256 (b .before .before .good .0 .1 .1 .1 .1 .0 .1 .0 .1) in
+    let sized : length (a .links) ≡ 256 = length-mapped _ (a .links) 256 (b .before .before .good .0 .1 .1 .0 .1 .0 .1) in
     (omega arith, (omega arith, omega (arith, lo .inv .1 .1, length-records-next (lo .prev) (a .links) (a .count) (lo .i) (omega arith) (omega arith))))
 
 returns : tie.Need-returns Inv-loop μ-loop

@@ -28,7 +28,7 @@ module _ (c : tie.In-loop Inv-loop μ-loop) where
   m = c .before .before .before .before .args .t2
 
   few : m .count ≤ length (m .links)
-  few = let sized : length (m .links) ≡ 256 = length-mapped _ (m .links) 256 (c .before .before .before .before .good .1 .0 .1 .1 .1 .1 .0 .1 .0 .1) in omega arith
+  few = let sized : length (m .links) ≡ 256 = length-mapped _ (m .links) 256 (c .before .before .before .before .good .1 .0 .1 .1 .0 .1 .0 .1) in omega arith
 
   -- the record of link i fits
   room : c .before .loop .at + length (recordOf (c .before .loop .prev) (getD (m .links) (c .before .loop .i) zeroLink)) ≤ length (c .before .loop .out)
