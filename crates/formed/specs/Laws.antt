@@ -1,3 +1,4 @@
 pub mod Forming
 pub mod Fresh
+pub mod Pieces
 pub mod Scans

@@ -1,4 +1,5 @@
 pub mod Formed
 pub mod WellFormed
 pub mod Entries
+pub mod Pieces
 pub mod Laws

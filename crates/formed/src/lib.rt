@@ -1,6 +1,8 @@
 // The test of a session's record: the mesh checks, then 13.
 ghost use mathlib.Core.Path.{_≡_};
-ghost use Rattle.formed.specs.Formed.{cutLink, misplaced, recordAnswer};
+ghost use Rattle.mesh.specs.Parts.{partsAnswer};
+ghost use Rattle.formed.specs.Formed.{cutLink, misplaced};
+ghost use Rattle.formed.specs.Pieces.{illFormed, recordAfter};
 
 mod entries;
 
@@ -8,7 +10,6 @@ use entries::Kind;
 use entries::has_bad_entry;
 use entries::has_stray;
 use mesh::Answer;
-use mesh::Mesh;
 
 // The cut link, or none.
 pub enum Cut {
@@ -36,41 +37,47 @@ fn is_misplaced(links: u16, cut: Cut) -> bool
     }
 }
 
-fn ill_formed() -> Answer
-    ensures { λ r. ⌜ r ≡ Answer.Refused 13 0 ⌝ }
+// Whether the plan, the cut or the flood is ill formed, with so many nodes and links.
+fn is_ill_formed<'a>(
+    nodes: u8,
+    count: u16,
+    directions: &[u8; 256],
+    cut: Cut,
+    states: &'a [u8; 256],
+    reached: &'a [bool; 64],
+) -> bool
+    ensures { λ r. ⌜ r ≡ illFormed nodes count (now (directions .entry)) cut (now (states .entry)) (now (reached .entry)) ⌝ }
 {
-    Answer::Refused {
-        number: 13,
-        place: 0,
-    }
+    has_bad_entry(Kind::Direction, count, directions)
+        | is_misplaced(count, cut)
+        | has_bad_entry(Kind::State, count, states)
+        | has_stray(nodes, reached)
 }
 
-// The record of a session with these pieces: mesh, 13.
+// The record of a session with these pieces: N, L, whether the mesh's entries past the last link are zero, the ends of its links, and the rest.
+// The mesh checks, then 13.
 pub fn record_answer<'a>(
-    mesh: Mesh,
+    nodes: u8,
+    count: u16,
+    zeros: bool,
+    ends: &[u16; 256],
     directions: &[u8; 256],
     cut: Cut,
     states: &'a [u8; 256],
     reached: &'a [bool; 64],
 ) -> Answer
-    ensures { λ r. ⌜ r ≡ recordAnswer mesh (record { directions = now (directions .entry) }) cut
-        (record { states = now (states .entry); reached = now (reached .entry) }) ⌝ }
+    ensures { λ r. ⌜ r ≡ recordAfter (partsAnswer nodes count zeros (now (ends .entry)))
+        nodes count (now (directions .entry)) cut (now (states .entry)) (now (reached .entry)) ⌝ }
 {
-    let a = mesh::check(mesh);
-    let Answer::Accepted = a else {
-        return a;
+    let tested = mesh::parts_answer(nodes, count, zeros, ends);
+    let Answer::Accepted = tested else {
+        return tested;
     };
-    if has_bad_entry(Kind::Direction, mesh.count, directions) {
-        return ill_formed();
-    }
-    if is_misplaced(mesh.count, cut) {
-        return ill_formed();
-    }
-    if has_bad_entry(Kind::State, mesh.count, states) {
-        return ill_formed();
-    }
-    if has_stray(mesh.nodes, reached) {
-        return ill_formed();
+    if is_ill_formed(nodes, count, directions, cut, states, reached) {
+        return Answer::Refused {
+            number: 13,
+            place: 0,
+        };
     }
     Answer::Accepted
 }

@@ -36,10 +36,10 @@ pub fn is_cut(cut: Cut, k: u16) -> bool
 }
 
 // Whether none of the first `count` links is under way.
-pub fn is_resting(count: u16, states: [u8; 256]) -> bool
-    ensures { λ r. ⌜ r ≡ resting count states ⌝ }
+pub fn is_resting(count: u16, states: &[u8; 256]) -> bool
+    ensures { λ r. ⌜ r ≡ resting count (now (states .entry)) ⌝ }
 {
-    states::under_way(count, states) == 0
+    states::count::under_way(states, count as usize) == 0
 }
 
 // Whether link k is under way; one past the states is not.

@@ -2,7 +2,6 @@
 ghost use mathlib.Core.Path.{_≡_};
 ghost use Prim.Native.Nat.{min};
 ghost use Rattle.flood.specs.Machine.{underWay};
-ghost use Rattle.flood.specs.Topology.{underWayOf, takenOf};
 
 pub mod count;
 pub mod offer;
@@ -24,18 +23,4 @@ pub fn is_under_way(v: u8) -> bool
         1 | 3 => true,
         0 | 2 | 4 | 5..=255 => false,
     }
-}
-
-// How many of the first `count` links are under way.
-pub fn under_way(count: u16, states: [u8; 256]) -> u16
-    ensures { λ r. ⌜ r ≡ underWayOf count states ⌝ }
-{
-    count::under_way(&states, count as usize)
-}
-
-// How many of the first `count` links are taken.
-pub fn taken(count: u16, states: [u8; 256]) -> u16
-    ensures { λ r. ⌜ r ≡ takenOf count states ⌝ }
-{
-    count::taken(&states, count as usize)
 }

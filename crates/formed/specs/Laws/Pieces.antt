@@ -1,0 +1,36 @@
+-- The record test by the pieces is the record test. Assumes nothing.
+use mathlib.Core.Path.{_≡_, refl, ap, _∙_}
+use mathlib.Core.Bool.{Bool, true, false, not, _||_, or-assoc}
+use Rattle.mesh.specs.declared.Mesh.{Mesh}
+use Rattle.mesh.specs.declared.Plan.{Plan}
+use Rattle.mesh.specs.declared.Answer.{Answer}
+use Rattle.mesh.specs.declared.Answer.the-variants.{Accepted, Refused}
+use Rattle.mesh.specs.Mesh.{must, andThen, meshAnswer}
+use Rattle.mesh.specs.WellFormed.{InRange}
+use Rattle.mesh.specs.Parts.{endsIn, restZero, partsAnswer}
+use Rattle.mesh.specs.Laws.Parts.{parts-answer}
+use Rattle.flood.specs.declared.Flood.{Flood}
+use Rattle.formed.specs.declared.Cut.{Cut}
+use Rattle.formed.specs.Formed.{overflows, strays, misplaced, planFault, floodFault, startAnswer, recordAnswer}
+use Rattle.formed.specs.Pieces.{illFormed, recordAfter}
+
+-- after an answer, 13 for the plan and then for the cut and the flood is 13 for one of the tests
+in-turn : (a : Answer) (plan cut states reached : Bool)
+    → andThen a (must (not (plan || cut || states || reached)) 13 0 Accepted)
+    ≡ andThen (andThen a (must (not plan) 13 0 Accepted)) (must (not (cut || (states || reached))) 13 0 Accepted)
+in-turn (Refused number place) plan cut states reached = refl
+in-turn Accepted true cut states reached = refl
+in-turn Accepted false cut states reached = rw (or-assoc cut states reached)
+
+record-after : (m : Mesh) (p : Plan) (c : Cut) (f : Flood)
+    → recordAfter (meshAnswer m) (m .nodes) (m .count) (p .directions) c (f .states) (f .reached) ≡ recordAnswer m p c f
+unfolding recordAfter illFormed recordAnswer startAnswer planFault floodFault
+record-after m p c f =
+    in-turn (meshAnswer m) (planFault m p) (misplaced (m .count) c)
+    (overflows (m .count) 4 (f .states)) (strays (m .nodes) (f .reached))
+
+-- the parts of a mesh are those that `split` gives
+pub record-pieces : (m : Mesh) (p : Plan) (c : Cut) (f : Flood) → InRange m
+    → recordAfter (partsAnswer (m .nodes) (m .count) (restZero m) (endsIn m)) (m .nodes) (m .count) (p .directions) c (f .states) (f .reached) ≡ recordAnswer m p c f
+record-pieces m p c f ranges =
+    ap (λ (a : Answer). recordAfter a (m .nodes) (m .count) (p .directions) c (f .states) (f .reached)) (parts-answer m ranges) ∙ record-after m p c f

@@ -1,0 +1,17 @@
+-- The record test by the pieces that a function is lent, after the answer to the mesh. Definitions only.
+use Prim.Native.Nat.{ℕ}
+use mathlib.Core.Bool.{Bool, not, _||_}
+use mathlib.Core.List.{List}
+use Rattle.mesh.specs.declared.Answer.{Answer}
+use Rattle.mesh.specs.declared.Answer.the-variants.{Accepted}
+use Rattle.mesh.specs.Mesh.{must, andThen}
+use Rattle.formed.specs.declared.Cut.{Cut}
+use Rattle.formed.specs.Formed.{overflows, strays, misplaced}
+
+-- the plan, the cut or the flood of a mesh with n nodes and k links is ill formed
+unfoldable pub illFormed : ℕ → ℕ → List ℕ → Cut → List ℕ → List Bool → Bool
+illFormed n k directions c states reached = overflows k 1 directions || misplaced k c || overflows k 4 states || strays n reached
+
+-- a session's record, whose mesh is answered with `tested`: that refusal, or 13
+unfoldable pub recordAfter : Answer → ℕ → ℕ → List ℕ → Cut → List ℕ → List Bool → Answer
+recordAfter tested n k directions c states reached = andThen tested (must (not (illFormed n k directions c states reached)) 13 0 Accepted)
