@@ -6,11 +6,19 @@ use lib.ListN.{length, replicate}
 use lib.Dec.{eqb}
 use Rattle.scan.specs.Entry.{at}
 use Rattle.scan.specs.Total.{count}
-use Rattle.flood.specs.declared.Topology.{Topology}
-use Rattle.flood.specs.declared.Ran.{Ran}
 use Rattle.flood.specs.declared.Route.{Route}
 use Rattle.flood.specs.Digraph.{Digraph, Failure}
 use Rattle.flood.specs.Machine.{Flood, underWay, first, some, atRest, run}
+
+-- a digraph with a failure, as arrays. Link i leads from tails[i] to heads[i]; it may be offered if open[i] is its tail
+pub record Topology : Type 0 where
+  pub nodes : ℕ
+  pub count : ℕ
+  pub source : ℕ
+  pub target : ℕ
+  pub tails : List ℕ
+  pub heads : List ℕ
+  pub «open» : List ℕ
 
 -- at most 256 links, each from its tail to its head
 unfoldable pub digraphOf : Topology → Digraph
@@ -19,12 +27,6 @@ digraphOf t = record { nodes = t .nodes; links = min (t .count) 256; tail = at (
 -- a link is blocked where its open tail is not its tail
 unfoldable pub failureOf : Topology → Failure
 failureOf t = record { source = t .source; target = t .target; blocked = λ i. not (eqb (at (t .open) i) (at (t .tails) i)) }
-
--- a run: the flood after it, how many deliveries it made, and whether no link is under way then
-unfoldable pub ranOf : Topology → ℕ → Flood → Ran
-ranOf t allowance f =
-    let r = run (digraphOf t) (failureOf t) allowance f in
-    record { flood = r .flood; made = r .made; rest = atRest (digraphOf t) (r .flood) }
 
 module _ (g : Digraph) where
   open Digraph g using (links, tail, head)
@@ -44,10 +46,6 @@ module _ (g : Digraph) where
 -- links in a row, zeros past them
 abbrev pub asRoute : List ℕ → Route
 asRoute p = record { links = p ++ replicate (256 - length p) 0; length = length p }
-
--- the route of a topology's flood from its source on
-unfoldable pub routeOf : Topology → Flood → Route
-routeOf t f = asRoute (routeFrom (digraphOf t) (digraphOf t .links) (t .source) (f .states))
 
 -- how many of the first links are under way, or taken
 unfoldable pub underWayOf : ℕ → List ℕ → ℕ

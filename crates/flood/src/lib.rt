@@ -6,24 +6,6 @@ pub struct Flood {
     pub reached: [bool; 64],
 }
 
-// A digraph with a failure. Link i leads from tails[i] to heads[i]; it may be offered if open[i] is its tail.
-pub struct Topology {
-    pub nodes: u8,
-    pub count: u16,
-    pub source: u8,
-    pub target: u8,
-    pub tails: [u8; 256],
-    pub heads: [u8; 256],
-    pub open: [u8; 256],
-}
-
-// What a run did: the flood after it, how many deliveries it made, and whether no link is under way then.
-pub struct Ran {
-    pub flood: Flood,
-    pub made: u32,
-    pub rest: bool,
-}
-
 // Links in a row: the first `length` entries, zeros past them.
 pub struct Route {
     pub links: [u16; 256],

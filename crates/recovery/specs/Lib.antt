@@ -1,4 +1,4 @@
 pub mod Formed
 pub mod Calls
-pub mod Counts
+pub mod Pieces
 pub mod Laws

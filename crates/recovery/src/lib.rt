@@ -1,24 +1,23 @@
-// The recovery machine: a session on a mesh and a plan, and its calls by value.
+// The recovery machine: a session on a mesh and a plan, and its calls by value. Each call takes the session apart once, hands its pieces to a
+// function of the crate `pieces`, and puts the session together once.
 ghost use mathlib.Core.Path.{_≡_};
-ghost use mathlib.Core.List.{[]};
 ghost use lib.ListN.{replicate};
-ghost use Rattle.mesh.specs.declared.Answer.the-variants.{Accepted};
-ghost use Rattle.flood.specs.Topology.{asRoute};
-ghost use Rattle.formed.specs.Formed.{cutLink};
-ghost use Rattle.topology.specs.Backup.{underCut};
-ghost use Rattle.recovery.specs.Formed.{recordAnswer};
-ghost use Rattle.recovery.specs.Calls.{freshOn, started, afterCut, deliverAnswer, afterDelivery, afterRun, afterMend, statusOf, acted, routed};
-ghost use Rattle.recovery.specs.Counts.{lengthBy};
+ghost use Rattle.flood.specs.Machine.{fresh};
+ghost use Rattle.pieces.specs.Pieces.{chosen};
+ghost use Rattle.recovery.specs.Calls.{freshOn, started, afterCut, afterDelivery, afterRun, afterMend, statusOf, acted, routed};
+ghost use Rattle.recovery.specs.Pieces.{deliveredBy, reportBy, statusBy};
 
 pub mod in_place;
 
 use flood::Flood;
 use flood::Route;
-use flood::Topology;
 use formed::Cut;
 use mesh::Answer;
 use mesh::Mesh;
 use mesh::Plan;
+use pieces::Made;
+use pieces::Moved;
+use pieces::Told;
 
 pub struct Session {
     pub mesh: Mesh,
@@ -86,10 +85,7 @@ impl Session {
     fn fresh(mesh: Mesh, plan: Plan) -> Session
         ensures { λ r. ⌜ r ≡ freshOn mesh plan ⌝ }
     {
-        let flood = Flood {
-            states: [0u8; Session::MOST_LINKS],
-            reached: [false; Session::MOST_NODES],
-        };
+        let flood = quiet();
         let cut = Cut::Nothing;
         Session {
             mesh,
@@ -99,60 +95,46 @@ impl Session {
         }
     }
 
-    // The answer to the session's record.
-    fn tested(self) -> Answer
-        ensures { λ r. ⌜ r ≡ recordAnswer self ⌝ }
-    {
-        let mesh = self.mesh;
-        let plan = self.plan;
-        let cut = self.cut;
-        let flood = self.flood;
-        formed::record_answer(mesh, &plan.directions, cut, &flood.states, &flood.reached)
-    }
-
-    // The topology under the cut; under a cut of link 0 where none stands.
-    fn around_cut(self) -> Topology
-        ensures { λ r. ⌜ r ≡ underCut (self .mesh) (self .plan) (cutLink (self .cut)) ⌝ }
-    {
-        let mesh = self.mesh;
-        let plan = self.plan;
-        let cut = self.cut;
-        topology::under_cut(mesh, &plan.directions, formed::cut_link(cut))
-    }
-
     // 01's start on a mesh and a plan: a fresh session, its record tested as in each call; all zeros with no cut on a refusal.
     pub fn start(mesh: Mesh, plan: Plan) -> Change
         ensures { λ r. ⌜ r ≡ started mesh plan ⌝ }
     {
-        let fresh = Session::fresh(mesh, plan);
-        let answer = fresh.tested();
+        let flood = quiet();
+        let cut = Cut::Nothing;
+        let answer = pieces::tested(mesh, &plan.directions, cut, &flood.states, &flood.reached);
         let Answer::Accepted = answer else {
             let session = Session::fresh(mesh::zero_mesh(), zero_plan());
             return Change { session, answer };
         };
-        Change {
-            session: fresh,
-            answer,
-        }
+        let session = Session {
+            mesh,
+            plan,
+            cut,
+            flood,
+        };
+        Change { session, answer }
     }
 
     // Link k is cut.
     pub fn cut(self, link: u16) -> Change
         ensures { λ r. ⌜ r ≡ afterCut self link ⌝ }
     {
-        let before = self.cut;
-        let answer = refusals::cut_answer(self.tested(), self.mesh.count, before, link);
-        let Answer::Accepted = answer else {
-            return Change {
-                session: self,
-                answer,
-            };
-        };
         let mesh = self.mesh;
         let plan = self.plan;
-        let quiet = self.flood;
-        let flood = flooding::begin(topology::under_cut(mesh, &plan.directions, link), quiet);
-        let cut = Cut::Link(link);
+        let before = self.cut;
+        let f = self.flood;
+        let mut states = f.states;
+        let mut reached = f.reached;
+        let answer = pieces::cut(
+            mesh,
+            &plan.directions,
+            before,
+            &mut states,
+            &mut reached,
+            link,
+        );
+        let cut = cut_after(answer, before, Cut::Link(link));
+        let flood = Flood { states, reached };
         let session = Session {
             mesh,
             plan,
@@ -163,63 +145,45 @@ impl Session {
     }
 
     // A delivery on a link.
-    pub fn deliver(self, link: u16) -> Delivery
+    pub fn deliver(mut self, link: u16) -> Delivery
         ensures { λ r. ⌜ r ≡ afterDelivery self link ⌝ }
     {
+        let mesh = self.mesh;
+        let plan = self.plan;
         let cut = self.cut;
-        let flood = self.flood;
-        let states = flood.states;
-        let a = refusals::deliver_answer(self.tested(), self.mesh.count, cut, &states, link);
-        if let Answer::Refused { number, place } = a {
-            let answer = Delivered::Refused { number, place };
-            return Delivery {
-                session: self,
-                answer,
-            };
-        }
-        self.delivered(link)
-    }
-
-    // An accepted delivery.
-    fn delivered(self, link: u16) -> Delivery
-        requires { ⌜ deliverAnswer self link ≡ Accepted ⌝ }
-        ensures { λ r. ⌜ r ≡ afterDelivery self link ⌝ }
-    {
-        let t = self.around_cut();
-        let before = self.flood;
-        let flood = flooding::step(t, link, before);
-        let i = link as usize;
-        let states = flood.states;
-        let tails = t.tails;
-        let heads = t.heads;
-        let answer = acted_on(states[i], tails[i], heads[i]);
-        let mut session = self;
-        session.flood = flood;
+        let f = self.flood;
+        let mut states = f.states;
+        let mut reached = f.reached;
+        let moved = pieces::deliver(mesh, &plan.directions, cut, &mut states, &mut reached, link);
+        let answer = delivery_answer(moved);
+        let flood = Flood { states, reached };
+        self.flood = flood;
+        let session = self;
         Delivery { session, answer }
     }
 
     // Deliveries on the lowest link under way, until rest or until the allowed number is used.
-    pub fn run(self, allowance: u32) -> Run
+    pub fn run(mut self, allowance: u32) -> Run
         ensures { λ r. ⌜ r ≡ afterRun self allowance ⌝ }
     {
+        let mesh = self.mesh;
+        let plan = self.plan;
         let cut = self.cut;
-        let a = refusals::run_answer(self.tested(), cut);
-        if let Answer::Refused { number, place } = a {
-            let report = Report::Refused { number, place };
-            return Run {
-                session: self,
-                report,
-            };
-        }
-        let before = self.flood;
-        let o = flooding::run(self.around_cut(), allowance, before);
-        let flood = o.flood;
-        let mut session = self;
-        session.flood = flood;
-        let report = Report::Made {
-            count: o.made,
-            rest: o.rest,
-        };
+        let f = self.flood;
+        let mut states = f.states;
+        let mut reached = f.reached;
+        let made = pieces::run(
+            mesh,
+            &plan.directions,
+            cut,
+            &mut states,
+            &mut reached,
+            allowance,
+        );
+        let report = run_report(made);
+        let flood = Flood { states, reached };
+        self.flood = flood;
+        let session = self;
         Run { session, report }
     }
 
@@ -227,20 +191,26 @@ impl Session {
     pub fn mend(self, link: u16) -> Change
         ensures { λ r. ⌜ r ≡ afterMend self link ⌝ }
     {
-        let cut = self.cut;
-        let flood = self.flood;
-        let states = flood.states;
-        let rest = refusals::is_resting(self.mesh.count, states);
-        let answer = refusals::mend_answer(self.tested(), self.mesh.count, cut, rest, link);
-        let Answer::Accepted = answer else {
-            return Change {
-                session: self,
-                answer,
-            };
-        };
         let mesh = self.mesh;
         let plan = self.plan;
-        let session = Session::fresh(mesh, plan);
+        let before = self.cut;
+        let f = self.flood;
+        let answer = pieces::mend_answer(
+            mesh,
+            &plan.directions,
+            before,
+            &f.states,
+            &f.reached,
+            link,
+        );
+        let cut = cut_after(answer, before, Cut::Nothing);
+        let flood = flood_after(answer, f);
+        let session = Session {
+            mesh,
+            plan,
+            cut,
+            flood,
+        };
         Change { session, answer }
     }
 
@@ -248,41 +218,69 @@ impl Session {
     pub fn status(self, link: u16) -> Status
         ensures { λ r. ⌜ r ≡ statusOf self link ⌝ }
     {
-        let a = refusals::status_answer(self.tested(), self.mesh.count, link);
-        if let Answer::Refused { number, place } = a {
-            return Status::Refused { number, place };
-        }
-        let flood = self.flood;
-        let states = flood.states;
-        let under_way = states::under_way(self.mesh.count, states);
+        let mesh = self.mesh;
+        let plan = self.plan;
         let cut = self.cut;
-        let route = route_length(self.mesh.count, cut, states, under_way);
-        let state = states[link as usize];
-        Status::Link {
-            state,
-            under_way,
-            route,
-        }
+        let flood = self.flood;
+        let told = pieces::status(
+            mesh,
+            &plan.directions,
+            cut,
+            &flood.states,
+            &flood.reached,
+            link,
+        );
+        link_status(told)
     }
 
     // The route's links from x on, at rest under a cut.
     pub fn route(self) -> Routed
         ensures { λ r. ⌜ r ≡ routed self ⌝ }
     {
+        let mesh = self.mesh;
+        let plan = self.plan;
         let cut = self.cut;
-        let answer = refusals::run_answer(self.tested(), cut);
-        let Answer::Accepted = answer else {
-            let route = no_route();
-            return Routed { route, answer };
-        };
         let flood = self.flood;
-        let states = flood.states;
-        if !refusals::is_resting(self.mesh.count, states) {
-            let route = no_route();
-            return Routed { route, answer };
-        }
-        let route = flooding::route_of(self.around_cut(), flood);
+        let found = pieces::route(mesh, &plan.directions, cut, &flood.states, &flood.reached);
+        let route = found.route;
+        let answer = found.answer;
         Routed { route, answer }
+    }
+}
+
+// All links quiet and no node reached.
+fn quiet() -> Flood
+    ensures { λ r. ⌜ r ≡ fresh 256 64 ⌝ }
+{
+    Flood {
+        states: [0u8; Session::MOST_LINKS],
+        reached: [false; Session::MOST_NODES],
+    }
+}
+
+// The cut after a call that answers so.
+fn cut_after(answer: Answer, before: Cut, after: Cut) -> Cut
+    ensures { λ r. ⌜ r ≡ chosen answer before after ⌝ }
+{
+    match answer {
+        Answer::Accepted => after,
+        Answer::Refused {
+            number: _,
+            place: _,
+        } => before,
+    }
+}
+
+// The flood after a mend that answers so.
+fn flood_after(answer: Answer, before: Flood) -> Flood
+    ensures { λ r. ⌜ r ≡ chosen answer before (fresh 256 64) ⌝ }
+{
+    match answer {
+        Answer::Accepted => quiet(),
+        Answer::Refused {
+            number: _,
+            place: _,
+        } => before,
     }
 }
 
@@ -291,15 +289,6 @@ fn zero_plan() -> Plan
 {
     Plan {
         directions: [0u8; Session::MOST_LINKS],
-    }
-}
-
-fn no_route() -> Route
-    ensures { λ r. ⌜ r ≡ asRoute [] ⌝ }
-{
-    Route {
-        links: [0u16; Session::MOST_LINKS],
-        length: 0,
     }
 }
 
@@ -314,15 +303,42 @@ fn acted_on(v: u8, a: u8, b: u8) -> Delivered
     }
 }
 
-// The number of taken links at rest under a cut, else 0.
-fn route_length(count: u16, cut: Cut, states: [u8; Session::MOST_LINKS], busy: u16) -> u16
-    ensures { λ r. ⌜ r ≡ lengthBy count cut states busy ⌝ }
+// What a delivery answers, by what became of its link.
+fn delivery_answer(m: Moved) -> Delivered
+    ensures { λ r. ⌜ r ≡ deliveredBy (m .answer) (acted (m .tail) (m .head) (m .state)) ⌝ }
 {
-    let Cut::Link(_) = cut else {
-        return 0;
-    };
-    if busy != 0 {
-        return 0;
+    let answer = m.answer;
+    match answer {
+        Answer::Accepted => acted_on(m.state, m.tail, m.head),
+        Answer::Refused { number, place } => Delivered::Refused { number, place },
     }
-    states::taken(count, states)
+}
+
+// What a run reports, by what it made.
+fn run_report(m: Made) -> Report
+    ensures { λ r. ⌜ r ≡ reportBy (m .answer) (Report.Made (m .made) (m .rest)) ⌝ }
+{
+    let answer = m.answer;
+    match answer {
+        Answer::Accepted => Report::Made {
+            count: m.made,
+            rest: m.rest,
+        },
+        Answer::Refused { number, place } => Report::Refused { number, place },
+    }
+}
+
+// The status of a link, by what is told of it.
+fn link_status(t: Told) -> Status
+    ensures { λ r. ⌜ r ≡ statusBy (t .answer) (Status.Link (t .state) (t .«under_way») (t .route)) ⌝ }
+{
+    let answer = t.answer;
+    match answer {
+        Answer::Accepted => Status::Link {
+            state: t.state,
+            under_way: t.under_way,
+            route: t.route,
+        },
+        Answer::Refused { number, place } => Status::Refused { number, place },
+    }
 }

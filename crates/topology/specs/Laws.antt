@@ -1,2 +1,2 @@
 pub mod Backup
-pub mod Fill
+pub mod Arrays

@@ -1,52 +1,72 @@
-// The back-up digraph of a mesh under a plan, with the failure of one link, as arrays.
-use flood::Topology;
-use mesh::Link;
-use mesh::Mesh;
+// The back-up digraph of a mesh under a plan, with the failure of one link, on arrays that are lent. A mesh's links are given by their ends as
+// numbers, as `mesh::split` stores them.
 use states::links_of;
 ghost use mathlib.Core.Path.{_≡_};
-ghost use lib.ListN.{length, set};
+ghost use lib.ListN.{set};
 ghost use Rattle.scan.specs.Entry.{at};
-ghost use Rattle.mesh.specs.Arc.{tailOf, headOf, backTail, backHead};
-ghost use Rattle.topology.specs.Backup.{filled, underCut};
+ghost use Rattle.topology.specs.Arrays.{tailBy, headBy, tailsInto, headsInto};
 
-// The tail of a link that may not be offered: no node has this number.
+// The start of a link that may not be offered: no node has this number.
 const CLOSED: u8 = 255;
 
-// Where the back-up arc of a link starts, and where it ends.
-fn tail_of(link: Link, direction: u8) -> u8
-    ensures { λ r. ⌜ r ≡ tailOf link direction ⌝ }
-{
-    if direction == 0 { link.high } else { link.low }
+// The stream that a failure loses: from its source x to its target y.
+pub struct Stream {
+    pub source: u8,
+    pub target: u8,
 }
 
-fn head_of(link: Link, direction: u8) -> u8
-    ensures { λ r. ⌜ r ≡ headOf link direction ⌝ }
+// Where the back-up arc of a link with the ends e starts, and where it ends.
+fn tail_of(e: u16, direction: u8) -> u8
+    ensures { λ r. ⌜ r ≡ tailBy e direction ⌝ }
 {
-    if direction == 0 { link.low } else { link.high }
+    if direction == 0 {
+        (e % 256) as u8
+    } else {
+        (e / 256) as u8
+    }
 }
 
-// Stores where each back-up arc starts and where it ends; the entries past the last link stay.
-fn fill_ends(mesh: Mesh, directions: &[u8; 256], tails: &mut [u8; 256], heads: &mut [u8; 256])
-    requires { ⌜ (length (now tails) ≡ 256) × (length (now heads) ≡ 256) ⌝ }
-    ensures tails { λ _. ⌜ now (tails .exit) ≡ filled (backTail mesh (record { directions = now (directions .entry) })) (mesh .count) (now (tails .entry)) ⌝ }
-    ensures heads { λ _. ⌜ now (heads .exit) ≡ filled (backHead mesh (record { directions = now (directions .entry) })) (mesh .count) (now (heads .entry)) ⌝ }
+fn head_of(e: u16, direction: u8) -> u8
+    ensures { λ r. ⌜ r ≡ headBy e direction ⌝ }
 {
-    let links = links_of(mesh.count as usize);
+    if direction != 0 {
+        (e % 256) as u8
+    } else {
+        (e / 256) as u8
+    }
+}
+
+// Stores where each back-up arc starts, in `tails` and `starts`, and where it ends; the entries past the last link stay.
+fn orient(
+    count: u16,
+    directions: &[u8; 256],
+    ends: &[u16; 256],
+    tails: &mut [u8; 256],
+    heads: &mut [u8; 256],
+    starts: &mut [u8; 256],
+)
+    ensures tails { λ _. ⌜ now (tails .exit) ≡ tailsInto count (now (ends .entry)) (now (directions .entry)) (now (tails .entry)) ⌝ }
+    ensures heads { λ _. ⌜ now (heads .exit) ≡ headsInto count (now (ends .entry)) (now (directions .entry)) (now (heads .entry)) ⌝ }
+    ensures starts { λ _. ⌜ now (starts .exit) ≡ tailsInto count (now (ends .entry)) (now (directions .entry)) (now (starts .entry)) ⌝ }
+{
+    let links = links_of(count as usize);
     let mut i: usize = 0;
     while i < links {
-        let l = mesh.links[i];
-        tails[i] = tail_of(l, directions[i]);
-        heads[i] = head_of(l, directions[i]);
+        let e = ends[i];
+        let d = directions[i];
+        tails[i] = tail_of(e, d);
+        heads[i] = head_of(e, d);
+        starts[i] = tail_of(e, d);
         i += 1;
     }
 }
 
 // Entry k; 0 where there is none.
-fn end_of(ends: &[u8], k: u16) -> u8
-    ensures { λ r. ⌜ r ≡ at (now (ends .entry)) k ⌝ }
+pub fn entry(entries: &[u8], k: u16) -> u8
+    ensures { λ r. ⌜ r ≡ at (now (entries .entry)) k ⌝ }
 {
     let i = k as usize;
-    if i < ends.len() { ends[i] } else { 0 }
+    if i < entries.len() { entries[i] } else { 0 }
 }
 
 // Link k may not be offered.
@@ -59,24 +79,26 @@ fn close(starts: &mut [u8], k: u16)
     }
 }
 
-// The topology under a cut of link k, of any mesh and any directions.
-pub fn under_cut(mesh: Mesh, directions: &[u8; 256], k: u16) -> Topology
-    ensures { λ r. ⌜ r ≡ underCut mesh (record { directions = now (directions .entry) }) k ⌝ }
+// The back-up arcs under a cut of link k, for any ends and any directions: stores their tails and heads and, in `starts`, the tails again, but
+// for link k, which may not be offered. Gives the stream that the cut loses.
+pub fn under_cut(
+    count: u16,
+    directions: &[u8; 256],
+    ends: &[u16; 256],
+    tails: &mut [u8; 256],
+    heads: &mut [u8; 256],
+    starts: &mut [u8; 256],
+    k: u16,
+) -> Stream
+    ensures tails { λ _. ⌜ now (tails .exit) ≡ tailsInto count (now (ends .entry)) (now (directions .entry)) (now (tails .entry)) ⌝ }
+    ensures heads { λ _. ⌜ now (heads .exit) ≡ headsInto count (now (ends .entry)) (now (directions .entry)) (now (heads .entry)) ⌝ }
+    ensures starts { λ _. ⌜ now (starts .exit) ≡ set (tailsInto count (now (ends .entry)) (now (directions .entry)) (now (starts .entry))) k 255 ⌝ }
+    ensures source { λ r. ⌜ r .source ≡ at (now (heads .exit)) k ⌝ }
+    ensures target { λ r. ⌜ r .target ≡ at (now (tails .exit)) k ⌝ }
 {
-    let mut tails = [0u8; 256];
-    let mut heads = [0u8; 256];
-    fill_ends(mesh, directions, &mut tails, &mut heads);
-    let mut open = tails;
-    close(&mut open, k);
-    let source = end_of(&heads, k);
-    let target = end_of(&tails, k);
-    Topology {
-        nodes: mesh.nodes,
-        count: mesh.count,
-        source,
-        target,
-        tails,
-        heads,
-        open,
-    }
+    orient(count, directions, ends, tails, heads, starts);
+    close(starts, k);
+    let source = entry(heads, k);
+    let target = entry(tails, k);
+    Stream { source, target }
 }

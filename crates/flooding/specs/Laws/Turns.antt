@@ -8,7 +8,6 @@ use lib.Dec.{leb}
 use borrow.Author.Tests.{le-leb, lt-leb}
 use Rattle.scan.specs.Test.{leb-not}
 use Rattle.scan.specs.Lowest.{any, lowest, lowest-is, None}
-use Rattle.flood.specs.declared.Ran as declared
 use Rattle.flood.specs.Digraph.{Digraph, Failure}
 use Rattle.flood.specs.declared.Flood.{Flood}
 use Rattle.flood.specs.Machine.{Ran, atRest, some, first, step, run, play, accepted, order}
@@ -62,9 +61,3 @@ module _ (g : Digraph) (c : Failure) (a : ℕ) (f₀ : Flood) where
     pub ended-used : a ≤ m → Ended g c a f₀ f m (leb (g .links) k)
     unfolding run order play accepted
     ended-used h = record { same = (let z : a - m ≡ 0 = omega arith in rw z (made-is f _ _ (omega arith))) ∙ sym (r .left); rests = rest-is }
-
--- what a run says once it has ended
-pub ended-is : {g : Digraph} {c : Failure} {n : ℕ} {f got : Flood} {made : ℕ} {rest : Bool} → Ended g c n f got made rest
-    → _≡_ {A = declared.Ran} (record { flood = got; made = made; rest = rest })
-    (record { flood = run g c n f .flood; made = run g c n f .made; rest = atRest g (run g c n f .flood) })
-ended-is e = rw (← e .same, e .rests)

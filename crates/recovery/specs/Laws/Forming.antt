@@ -24,11 +24,5 @@ module _ (s : Session) where
   refused-record = pieces.refused-record (s .mesh) (s .plan) (s .cut) (s .flood)
 
   -- what holds of any accepted record, however many entries its list of links has
-  pub record-mesh : recordAnswer s ≡ Accepted → meshAnswer (s .mesh) ≡ Accepted
-  record-mesh = pieces.record-mesh (s .mesh) (s .plan) (s .cut) (s .flood)
-
   pub record-few : recordAnswer s ≡ Accepted → s .mesh .count ≤ 256
   record-few = pieces.record-few (s .mesh) (s .plan) (s .cut) (s .flood)
-
-  pub record-cut : recordAnswer s ≡ Accepted → CutFormed (s .mesh) (s .cut)
-  record-cut = pieces.record-cut (s .mesh) (s .plan) (s .cut) (s .flood)

@@ -1,21 +1,18 @@
 -- What an accepted call on a session has passed, and when a delivery is accepted. Assumes nothing.
 use Prim.Native.Nat.{ℕ, _<_}
-use mathlib.Core.Path.{_≡_, refl, ap}
-use mathlib.Core.Bool.{Bool, true, false, and-eq-true-iff}
+use mathlib.Core.Path.{_≡_}
+use mathlib.Core.Bool.{true, false, and-eq-true-iff}
 use lib.Dec.{ltb}
 use borrow.Author.Tests.{lt-ltb}
 use Rattle.scan.specs.Entry.{at}
-use Rattle.mesh.specs.declared.Answer.{Answer}
-use Rattle.mesh.specs.declared.Answer.the-variants.{Accepted, Refused}
+use Rattle.mesh.specs.declared.Answer.the-variants.{Accepted}
 use Rattle.flood.specs.Machine.{underWay, accepts}
 use Rattle.refusals.specs.Refusals as refusals
 use Rattle.refusals.specs.Refusals.{standing}
 use Rattle.refusals.specs.Laws.Tested as pieces
 use Rattle.recovery.specs.declared.Session.{Session}
 use Rattle.recovery.specs.Formed.{recordAnswer}
-use Rattle.recovery.specs.Calls.{digraph, resting, cutAnswer, deliverAnswer, runAnswer, mendAnswer, statusAnswer}
-use Rattle.recovery.specs.Laws.Forming.{record-few}
-use Rattle.recovery.specs.Laws.Counts.{resting-counted}
+use Rattle.recovery.specs.Calls.{digraph, cutAnswer, deliverAnswer, runAnswer, statusAnswer}
 
 module _ (s : Session) where
   pub cut-accepted : (k : ℕ) → cutAnswer s k ≡ Accepted → (recordAnswer s ≡ Accepted) × (k < s .mesh .count) × (standing (s .cut) ≡ false)
@@ -39,13 +36,3 @@ module _ (s : Session) where
       → deliverAnswer s k ≡ Accepted
   unfolding refusals.deliverAnswer accepts
   deliver-accepts k r c a = let (l, u) = and-eq-true-iff (ltb k (s .mesh .count)) (underWay (at (s .flood .states) k)) .0 a in rw (r, c, l, u)
-
-  -- a mend is told that the session is at rest by a count over the states, which is right where the record is accepted
-  pub mend-counted : (k : ℕ) → refusals.mendAnswer (recordAnswer s) (s .mesh .count) (s .cut) (refusals.resting (s .mesh .count) (s .flood .states)) k ≡ mendAnswer s k
-  unfolding refusals.mendAnswer
-  mend-counted k = go (recordAnswer s) (λ r. resting-counted s (record-few s r))
-    where
-      go : (a : Answer) → (a ≡ Accepted → refusals.resting (s .mesh .count) (s .flood .states) ≡ resting s)
-          → refusals.mendAnswer a (s .mesh .count) (s .cut) (refusals.resting (s .mesh .count) (s .flood .states)) k ≡ refusals.mendAnswer a (s .mesh .count) (s .cut) (resting s) k
-      go Accepted same = ap (λ (rest : Bool). refusals.mendAnswer Accepted (s .mesh .count) (s .cut) rest k) (same refl)
-      go (Refused number place) same = refl

@@ -1,7 +1,14 @@
 -- `topology::tail_of` meets its contract: each return rewrites with the test that led there.
+use borrow.Author.Needs.{needs}
 use borrow.Author.Tests.{eq-eqb, ne-eqb}
 use Rattle.topology.proofs.tail_of.Statement.{statement}
 use Rattle.topology.proofs.tail_of.Tie as tie
+
+cast-result : tie.Need-cast-result
+cast-result c = search needs
+
+cast-result-2 : tie.Need-cast-result-2
+cast-result-2 c = search needs
 
 returns : tie.Need-returns
 returns c = simp (eq-eqb _ _ (c .if1 .taken))
@@ -10,4 +17,4 @@ returns-2 : tie.Need-returns-2
 returns-2 c = simp (ne-eqb _ _ (c .if1 .left))
 
 pub tail-of-spec : {M : Type 1} → statement M
-tail-of-spec = tie.close (tie.spec returns returns-2)
+tail-of-spec = tie.close (tie.spec cast-result cast-result-2 returns returns-2)

@@ -10,6 +10,7 @@ use lib.ListN.{length, set}
 use borrow.Author.Tests.{eq-eqb, ne-eqb}
 use Rattle.scan.specs.Test.{branch}
 use Rattle.scan.specs.Entry.{at, moved, set-at}
+use Rattle.scan.specs.Fill.{tableOf, table-sized, table-at}
 use Rattle.mesh.specs.declared.Mesh.{Mesh}
 use Rattle.mesh.specs.declared.Plan.{Plan}
 use Rattle.mesh.specs.declared.Answer.the-variants.{Accepted}
@@ -22,8 +23,7 @@ use Rattle.mesh.specs.Laws.Refused.{Sound, mesh-told}
 use Rattle.mesh.specs.Laws.Checked.{passes}
 use Rattle.flood.specs.Digraph.{cut}
 use Rattle.flood.specs.Topology.{digraphOf, failureOf}
-use Rattle.topology.specs.Backup.{backup, tableOf, underCut}
-use Rattle.topology.specs.Laws.Fill.{table-sized, table-at}
+use Rattle.topology.specs.Backup.{backup, underCut}
 
 module _ (m : Mesh) (p : Plan) (good : meshAnswer m ≡ Accepted) where
   few : m .count ≤ 256

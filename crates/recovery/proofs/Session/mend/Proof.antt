@@ -1,57 +1,34 @@
--- `recovery::Session::mend` meets its contract: refused, the session comes back; accepted, it is fresh.
-use mathlib.Core.Path.{_≡_, refl, _∙_}
+-- `recovery::Session::mend` meets its contract: refused, the cut and the flood stay; accepted, there is no cut and the flood is quiet.
+use mathlib.Core.Path.{_≡_, ap, _∙_}
 use borrow.Author.Needs.{needs}
-use Rattle.refusals.specs.Refusals as refusals
-use Rattle.recovery.specs.Calls.{mendAnswer, afterMend}
-use Rattle.recovery.specs.Laws.Tested.{mend-counted}
-use Rattle.recovery.specs.Laws.Calls.{change-stops, change-goes}
+use Rattle.mesh.specs.declared.Answer.{Answer}
+use Rattle.flood.specs.Machine.{fresh}
+use Rattle.formed.specs.declared.Cut.the-variants as cuts
+use Rattle.recovery.specs.Calls.{freshOn, change, afterMend}
+use Rattle.recovery.specs.Pieces.{changeTo}
+use Rattle.recovery.specs.Laws.Calls.{change-chosen}
 use Rattle.recovery.proofs.Session.mend.Statement.{statement}
 use Rattle.recovery.proofs.Session.mend.Tie as tie
-
--- the answer is the session's
-answered : (c : tie.After-mend-answer) → let a = c .before .before .before .before .before .args in c .mend-answer .result ≡ mendAnswer (a .self) (a .link)
-answered c =
-    let a = c .before .before .before .before .before .args in
-    let s = a .self in
-    c .mend-answer .ensures
-    ∙ (λ i. refusals.mendAnswer (c .before .tested .ensures i) (s .mesh .count) (s .cut) (c .before .before .is-resting .ensures i) (a .link))
-    ∙ mend-counted s (a .link)
-
-is-resting-requires : tie.Need-is-resting-requires
-is-resting-requires c κs = search needs
-
-tested-requires : tie.Need-tested-requires
-tested-requires c κs = search needs
 
 mend-answer-requires : tie.Need-mend-answer-requires
 mend-answer-requires c κs = search needs
 
-enum-told : tie.Need-enum-told
-enum-told c = search needs
+cut-after-requires : tie.Need-cut-after-requires
+cut-after-requires c κs = search needs
 
-enum-told-2 : tie.Need-enum-told-2
-enum-told-2 c = search needs
+flood-after-requires : tie.Need-flood-after-requires
+flood-after-requires c κs = search needs
 
 returns : tie.Need-returns
 unfolding afterMend
-returns c = change-stops (answered (c .before .before)) _ _ _ (c .enum-told2 .given .1) refl
-
-fresh-requires : tie.Need-fresh-requires
-fresh-requires c κs = search needs
-
-returns-2 : tie.Need-returns-2
-unfolding afterMend
-returns-2 c = let d = c .before .before .before in change-goes (answered (d .before .before)) _ _ _ (d .enum-told .given .1) (c .fresh .ensures)
+returns c =
+    let d = c .before in
+    let a = d .before in
+    let s = a .before .before .before .before .before .before .before .before .before .args .self in
+    (λ i. changeTo (record { mesh = s .mesh; plan = s .plan; cut = d .cut-after .ensures i; flood = c .flood-after .ensures i }) (a .mend-answer .result))
+    ∙ change-chosen s cuts.Nothing (fresh 256 64) (a .mend-answer .result)
+    ∙ ap (λ (x : Answer). change x s (freshOn (s .mesh) (s .plan))) (a .mend-answer .ensures)
 
 pub mend-spec : {M : Type 1} → statement M
 mend-spec =
-    tie.close
-    (tie.spec
-    is-resting-requires
-    tested-requires
-    mend-answer-requires
-    enum-told
-    enum-told-2
-    returns
-    fresh-requires
-    returns-2)
+    tie.close (tie.spec mend-answer-requires cut-after-requires flood-after-requires returns)

@@ -1,7 +1,9 @@
 -- `recovery::Session::start` meets its contract: refused, it gives the session of zeros; accepted, the fresh one, whose record it tested.
 use mathlib.Core.Path.{_≡_, ap, _∙_}
 use borrow.Author.Needs.{needs}
+use Rattle.flood.specs.declared.Flood.{Flood}
 use Rattle.formed.specs.Formed.{startAnswer}
+use Rattle.formed.specs.declared.Cut.the-variants as cuts
 use Rattle.formed.specs.Laws.Fresh.{fresh-answer}
 use Rattle.recovery.specs.declared.Session.{Session}
 use Rattle.recovery.specs.Formed.{recordAnswer}
@@ -10,12 +12,21 @@ use Rattle.recovery.specs.Laws.Calls.{change-stops, change-goes}
 use Rattle.recovery.proofs.Session.start.Statement.{statement}
 use Rattle.recovery.proofs.Session.start.Tie as tie
 
--- the answer is that of a start on the mesh and the plan
-answered : (c : tie.After-tested) → let a = c .before .before .args in c .tested .result ≡ startAnswer (a .mesh) (a .plan)
-answered c = let a = c .before .before .args in c .tested .ensures ∙ ap (λ (s : Session). recordAnswer s) (c .before .fresh .ensures) ∙ fresh-answer (a .mesh) (a .plan)
+abbrev made : tie.After-tested → tie.After-quiet
+made c = c .before .before .before .before .before .before
 
-fresh-requires : tie.Need-fresh-requires
-fresh-requires c κs = search needs
+-- the session without a cut that has this flood
+abbrev with-flood : tie.Start → Flood → Session
+with-flood s f = record { mesh = s .args .mesh; plan = s .args .t2; cut = cuts.Nothing; flood = f }
+
+-- the answer is that of a start on the mesh and the plan
+answered : (c : tie.After-tested) → let a = made c .before .args in c .tested .result ≡ startAnswer (a .mesh) (a .t2)
+answered c =
+    let q = made c in
+    c .tested .ensures ∙ ap (λ (f : Flood). recordAnswer (with-flood (q .before) f)) (q .quiet .ensures) ∙ fresh-answer (q .before .args .mesh) (q .before .args .t2)
+
+quiet-requires : tie.Need-quiet-requires
+quiet-requires c κs = search needs
 
 tested-requires : tie.Need-tested-requires
 tested-requires c κs = search needs
@@ -32,30 +43,33 @@ zero-mesh-requires c κs = search needs
 zero-plan-requires : tie.Need-zero-plan-requires
 zero-plan-requires c κs = search needs
 
-fresh-requires-2 : tie.Need-fresh-requires-2
-fresh-requires-2 c κs = search needs
+fresh-requires : tie.Need-fresh-requires
+fresh-requires c κs = search needs
 
 returns : tie.Need-returns
 unfolding started
 returns c =
-    let d = c .before .before .before in
+    let z = c .before in
+    let d = z .before .before in
     change-stops (answered (d .before .before)) _ _ _ (d .enum-told2 .given .1)
-    (c .fresh2 .ensures ∙ (λ i. freshOn (c .before .before .zero-mesh .ensures i) (record { directions = c .before .zero-plan .ensures i })))
+    (c .fresh .ensures ∙ (λ i. freshOn (z .before .zero-mesh .ensures i) (record { directions = z .zero-plan .ensures i })))
 
 returns-2 : tie.Need-returns-2
 unfolding started
-returns-2 c = change-goes (answered (c .before .before)) _ _ _ (c .enum-told .given .1) (c .before .before .before .fresh .ensures)
+returns-2 c =
+    let q = made (c .before .before) in
+    change-goes (answered (c .before .before)) _ _ _ (c .enum-told .given .1) (ap (with-flood (q .before)) (q .quiet .ensures))
 
 pub start-spec : {M : Type 1} → statement M
 start-spec =
     tie.close
     (tie.spec
-    fresh-requires
+    quiet-requires
     tested-requires
     enum-told
     enum-told-2
     zero-mesh-requires
     zero-plan-requires
-    fresh-requires-2
+    fresh-requires
     returns
     returns-2)
