@@ -18,6 +18,7 @@ pub const PLAN: u8 = b'P';
 /// Planning by the plain planner; prints what `PLAN` prints.
 pub const PLAN_IN_TWO_PASSES: u8 = b'T';
 pub const RUN: u8 = b'R';
+pub const CUT: u8 = b'C';
 pub const DELIVER: u8 = b'L';
 pub const STATUS: u8 = b'U';
 
@@ -55,6 +56,7 @@ fn repeat(job: u8, repeats: u32, book: &[u8], mesh: Mesh) -> Result<String, Stri
         PLAN => Ok(plan_line(repeats, mesh, plan)),
         PLAN_IN_TWO_PASSES => Ok(plan_line(repeats, mesh, two_pass_plan::plan)),
         RUN => Ok(sessions::run_line(repeats, &mesh)),
+        CUT => Ok(sessions::cut_line(repeats, &mesh)),
         DELIVER => Ok(sessions::delivery_line(repeats, &mesh)),
         STATUS => Ok(sessions::status_line(repeats, &mesh)),
         _ => Err(format!("unknown job {job}")),

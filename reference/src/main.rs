@@ -9,7 +9,8 @@
 //! `reference table` reads a book and writes its text table;
 //! `reference bench` repeats a job on a book; `reference time BENCH MESHPLAN`
 //! measures two programs with the same input and output as `reference bench`
-//! and `reference meshplan` against these.
+//! and `reference meshplan` against these, and with a third and a fourth name
+//! two earlier ones beside them.
 
 use std::fs;
 use std::io::{self, Read, Write};
@@ -42,7 +43,11 @@ fn main() -> ExitCode {
         ["book"] => exit(write_book()),
         ["table"] => exit(write_text_table()),
         ["bench"] => finish(write_bench_line()),
-        ["time", bench, meshplan] => finish(write_times(bench, meshplan)),
+        ["time", bench, meshplan] => finish(write_times(&[bench], &[meshplan])),
+        ["time", bench, meshplan, earlier_bench, earlier_meshplan] => {
+            let benches = [bench, earlier_bench];
+            finish(write_times(&benches, &[meshplan, earlier_meshplan]))
+        }
         _ => usage(),
     }
 }
@@ -51,7 +56,8 @@ fn usage() -> ExitCode {
     eprintln!(
         "usage: reference corpus SEED BOOK.. | reference expect | reference script CALL.. | \
          reference calls | reference show | reference meshplan | reference book | \
-         reference table | reference bench | reference time BENCH MESHPLAN"
+         reference table | reference bench | \
+         reference time BENCH MESHPLAN [EARLIER-BENCH EARLIER-MESHPLAN]"
     );
     ExitCode::from(2)
 }
@@ -136,12 +142,15 @@ fn write_bench_line() -> io::Result<()> {
     writeln!(io::stdout(), "{line}")
 }
 
-fn write_times(bench: &str, meshplan: &str) -> io::Result<()> {
-    let own =
-        |command| Ok::<Program, io::Error>(Program::new(std::env::current_exe()?, &[command]));
-    let benches = [&Program::new(bench, &[]), &own("bench")?];
-    let meshplans = [&Program::new(meshplan, &[]), &own("meshplan")?];
-    write_table(benches, meshplans, &mut io::stdout())
+fn write_times(benches: &[&str], meshplans: &[&str]) -> io::Result<()> {
+    let with_own = |names: &[&str], command| {
+        let mut programs: Vec<Program> = names.iter().map(|name| Program::new(name, &[])).collect();
+        programs.push(Program::new(std::env::current_exe()?, &[command]));
+        Ok::<Vec<Program>, io::Error>(programs)
+    };
+    let benches = with_own(benches, "bench")?;
+    let meshplans = with_own(meshplans, "meshplan")?;
+    write_table(&benches, &meshplans, &mut io::stdout())
 }
 
 fn read_input() -> io::Result<Vec<u8>> {

@@ -1,4 +1,4 @@
-//! Measures another program against this one's bench.
+//! Measures other programs against this one's bench.
 
 pub mod contest;
 pub mod counter;
@@ -7,43 +7,46 @@ pub mod program;
 
 use std::io::{self, Write};
 
-use crate::bench::{DECODE, DELIVER, ENCODE, PLAN, PLAN_IN_TWO_PASSES, RUN, STATUS};
+use crate::bench::{CUT, DECODE, DELIVER, ENCODE, PLAN, PLAN_IN_TWO_PASSES, RUN, STATUS};
 use crate::book::bytes_of;
 use contest::{contest, whole};
 use counter::Counter;
 use meshes::{subjects, Subject};
 use program::Program;
 
-/// The name of each row, and the jobs of the measured program and of the bench.
-const ROWS: [(&str, [u8; 2]); 7] = [
+/// The name of each row, and the jobs of the measured programs and of the bench.
+const ROWS: [(&str, [u8; 2]); 8] = [
     ("decode", [DECODE; 2]),
     ("encode", [ENCODE; 2]),
     ("plan", [PLAN; 2]),
     ("plan, against two passes", [PLAN, PLAN_IN_TWO_PASSES]),
     ("run to rest", [RUN; 2]),
+    ("cut by value", [CUT; 2]),
     ("delivery by value", [DELIVER; 2]),
     ("status", [STATUS; 2]),
 ];
 
 /// Writes a Markdown table, a row for each job and mesh as it is measured:
-/// first the repeated jobs of two bench programs, then whole runs of two
-/// meshplan programs. Instructions are in it where something counts them.
+/// first the repeated jobs of bench programs, then whole runs of meshplan
+/// programs. The last program of each kind is this one, which the others are
+/// measured against. Instructions are in it where something counts them.
 pub fn write_table(
-    benches: [&Program; 2],
-    meshplans: [&Program; 2],
+    benches: &[Program],
+    meshplans: &[Program],
     output: &mut impl Write,
 ) -> io::Result<()> {
     let counter = Counter::find();
-    writeln!(output, "{}", heading(counter.is_some()))?;
-    for (name, jobs) in ROWS {
+    writeln!(output, "{}", heading(benches.len(), counter.is_some()))?;
+    for (name, pair) in ROWS {
+        let jobs = jobs_of(pair, benches.len());
         for subject in subjects() {
-            let book = book_for(jobs[0], &subject);
-            let measured = contest(benches, jobs, &book).and_then(|times| {
-                let count = |counter: &Counter| counter.of_calls(benches, jobs, &book);
+            let book = book_for(pair[0], &subject);
+            let measured = contest(benches, &jobs, &book).and_then(|times| {
+                let count = |counter: &Counter| counter.of_calls(benches, &jobs, &book);
                 Ok((times, counter.as_ref().map(count).transpose()?))
             });
             let (times, counts) = measured.map_err(|error| named(name, &subject, &error))?;
-            writeln!(output, "{}", row(name, subject.name, times, counts))?;
+            writeln!(output, "{}", row(name, subject.name, &times, counts))?;
         }
     }
     for subject in subjects() {
@@ -53,17 +56,31 @@ pub fn write_table(
             Ok((times, counter.as_ref().map(count).transpose()?))
         });
         let (times, counts) = measured.map_err(|error| named("meshplan", &subject, &error))?;
-        writeln!(output, "{}", row("meshplan", subject.name, times, counts))?;
+        writeln!(output, "{}", row("meshplan", subject.name, &times, counts))?;
     }
     Ok(())
 }
 
-fn heading(counted: bool) -> String {
-    let (names, bars) = match counted {
-        true => (" instructions | reference | ratio |", "--:|--:|--:|"),
-        false => ("", ""),
+/// The job of each program: the last is this one.
+fn jobs_of([measured, own]: [u8; 2], programs: usize) -> Vec<u8> {
+    let mut jobs = vec![measured; programs - 1];
+    jobs.push(own);
+    jobs
+}
+
+/// Two programs, or three with an earlier one in the middle.
+fn heading(programs: usize, counted: bool) -> String {
+    let (earlier, earlier_ratio) = match programs {
+        3 => (" before |", " ratio before |"),
+        _ => ("", ""),
     };
-    format!("| job | mesh | microseconds | reference | ratio |{names}\n|---|---|--:|--:|--:|{bars}")
+    let columns = |unit| format!(" {unit} |{earlier} reference | ratio |{earlier_ratio}");
+    let mut names = columns("microseconds");
+    if counted {
+        names += &columns("instructions");
+    }
+    let bars = "--:|".repeat(names.matches('|').count());
+    format!("| job | mesh |{names}\n|---|---|{bars}")
 }
 
 /// Planning takes no heed of lengths and fibre pairs; the other jobs get them.
@@ -78,28 +95,54 @@ fn named(job: &str, subject: &Subject, error: &io::Error) -> io::Error {
     io::Error::other(format!("{job}, {}: {error}", subject.name))
 }
 
-fn row(job: &str, mesh: &str, times: [f64; 2], counts: Option<[f64; 2]>) -> String {
-    let [ours, theirs] = times;
-    let ratio = ours / theirs;
-    let timed = format!("| {job} | {mesh} | {ours:.3} | {theirs:.3} | {ratio:.2} |");
+fn row(job: &str, mesh: &str, times: &[f64], counts: Option<Vec<f64>>) -> String {
+    let timed = format!("| {job} | {mesh} |{}", cells(times, 3));
     match counts {
         None => timed,
-        Some([ours, theirs]) => {
-            let ratio = ours / theirs;
-            format!("{timed} {ours:.0} | {theirs:.0} | {ratio:.2} |")
-        }
+        Some(counts) => timed + &cells(&counts, 0),
     }
+}
+
+/// Each number, then the ratio of each to the last.
+fn cells(numbers: &[f64], places: usize) -> String {
+    let (last, others) = numbers.split_last().expect("a number for each program");
+    let number = |n: &f64| format!(" {n:.places$} |");
+    let ratio = |n: &f64| format!(" {:.2} |", n / last);
+    numbers
+        .iter()
+        .map(number)
+        .chain(others.iter().map(ratio))
+        .collect()
 }
 
 #[cfg(test)]
 mod tests {
-    use super::row;
+    use super::{heading, jobs_of, row};
 
     #[test]
     fn a_row_of_the_table() {
         let timed = "| plan | P5 | 3.000 | 1.500 | 2.00 |";
-        assert_eq!(row("plan", "P5", [3.0, 1.5], None), timed);
+        assert_eq!(row("plan", "P5", &[3.0, 1.5], None), timed);
         let counted = "| plan | P5 | 3.000 | 1.500 | 2.00 | 90 | 120 | 0.75 |";
-        assert_eq!(row("plan", "P5", [3.0, 1.5], Some([90.0, 120.0])), counted);
+        let counts = Some(vec![90.0, 120.0]);
+        assert_eq!(row("plan", "P5", &[3.0, 1.5], counts), counted);
+        let three = "| plan | P5 | 3.000 | 6.000 | 1.500 | 2.00 | 4.00 |";
+        assert_eq!(row("plan", "P5", &[3.0, 6.0, 1.5], None), three);
+    }
+
+    #[test]
+    fn a_heading_has_a_bar_for_each_column() {
+        let two = "| job | mesh | microseconds | reference | ratio |\n|---|---|--:|--:|--:|";
+        assert_eq!(heading(2, false), two);
+        for programs in [2, 3] {
+            let heading = heading(programs, true);
+            let (names, bars) = heading.split_once('\n').unwrap();
+            assert_eq!(names.matches('|').count(), bars.matches('|').count());
+        }
+    }
+
+    #[test]
+    fn this_program_has_its_own_job() {
+        assert_eq!(jobs_of(*b"PT", 3), b"PPT");
     }
 }

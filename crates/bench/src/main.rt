@@ -1,5 +1,5 @@
-// Repeats one job on one book, for measuring: a job byte (D decode, E encode, P plan, R run to rest, L one delivery, U one status), a number of
-// repeats (4 bytes, low byte first), a book.
+// Repeats one job on one book, for measuring: a job byte (D decode, E encode, P plan, R run to rest, C one cut, L one delivery, U one
+// status), a number of repeats (4 bytes, low byte first), a book.
 // The length of link 0 is another in each repeat. Prints one line from the last result.
 mod job;
 mod sessions;

@@ -1,4 +1,4 @@
-// Jobs on a session in which the last link was just cut.
+// Jobs on a session: a cut of the last link, and the others on a session in which it was just cut.
 use crate::job::print_answer;
 use crate::job::with_length;
 use libc::STDOUT_FILENO;
@@ -20,19 +20,57 @@ fn last_link(m: Mesh) -> u16 {
     if m.count == 0 { 0 } else { m.count - 1 }
 }
 
+// A fresh session on the plan, and the planner's answer.
+fn fresh(m: Mesh) -> Change {
+    let p = planner::plan(m);
+    let answer = p.answer;
+    let plan = p.plan;
+    let session = Session::start(m, plan).session;
+    Change { session, answer }
+}
+
 // The session just after the cut of the last link; the planner's refusal where it has no plan.
 fn just_cut(m: Mesh) -> Change {
-    let p = planner::plan(m);
-    let a = p.answer;
-    let plan = p.plan;
-    let fresh = Session::start(m, plan).session;
+    let c = fresh(m);
+    let a = c.answer;
     let Answer::Accepted = a else {
-        return Change {
-            session: fresh,
-            answer: a,
-        };
+        return c;
     };
-    fresh.cut(last_link(m))
+    let s = c.session;
+    s.cut(last_link(m))
+}
+
+pub(crate) fn cut_job(m: Mesh, repeats: u32) {
+    io::write_all(STDOUT_FILENO, b"C ");
+    let c = fresh(m);
+    let a = c.answer;
+    let Answer::Accepted = a else {
+        print_answer(a);
+        return;
+    };
+    let even = c.session;
+    let o = fresh(with_length(m, 0));
+    let odd = o.session;
+    let last = cut_often(even, odd, last_link(m), repeats);
+    let after = last.session;
+    let answer = last.answer;
+    if is_accepted(after) {
+        print_answer(answer);
+    }
+}
+
+fn cut_often(even: Session, odd: Session, link: u16, repeats: u32) -> Change {
+    let mut c = even.cut(link);
+    let mut i: u32 = 1;
+    while i < repeats {
+        if i % 2 == 0 {
+            c = even.cut(link);
+        } else {
+            c = odd.cut(link);
+        }
+        i += 1;
+    }
+    c
 }
 
 // The same session with another length of link 0: the jobs take the two by turns.

@@ -1,5 +1,5 @@
-//! The jobs on a session: each on the session just after a cut of the last
-//! link of a planned mesh.
+//! The jobs on a session of a planned mesh: a cut of the last link on a fresh
+//! one, the others just after that cut.
 
 use std::hint::black_box;
 
@@ -25,6 +25,19 @@ pub fn run_line(repeats: u32, mesh: &Mesh) -> String {
         Ok(made) => format!("R {made}"),
         Err(refusal) => refused("R", refusal),
     }
+}
+
+/// One cut, of the last link; the fresh session is copied for each.
+pub fn cut_line(repeats: u32, mesh: &Mesh) -> String {
+    let cut = Subject::uncut(mesh).and_then(|subject| {
+        for number in 0..repeats {
+            let mut copy = subject.copy(number);
+            black_box(copy.cut(black_box(subject.last)))?;
+            black_box(&copy);
+        }
+        Ok(())
+    });
+    format!("C {}", in_words(cut))
 }
 
 /// One delivery, on the lowest link under way; the session is copied for each.
@@ -58,19 +71,29 @@ pub fn status_line(repeats: u32, mesh: &Mesh) -> String {
 }
 
 /// What a job is repeated on: two sessions that differ in the length of
-/// link 0, taken by turns, each just after a cut of the last link.
+/// link 0, taken by turns, each fresh or just after a cut of the last link.
 struct Subject {
     sessions: [Session; 2],
     last: u16,
 }
 
 impl Subject {
+    /// Sessions just after a cut of the last link.
     fn new(mesh: &Mesh) -> Result<Subject, Refusal> {
+        let mut subject = Subject::uncut(mesh)?;
+        for session in &mut subject.sessions {
+            session.cut(subject.last)?;
+        }
+        Ok(subject)
+    }
+
+    /// Fresh sessions.
+    fn uncut(mesh: &Mesh) -> Result<Subject, Refusal> {
         let mut other = mesh.clone();
         change_length(&mut other, 0);
-        let (first, last) = just_cut(mesh)?;
-        let (second, _) = just_cut(&other)?;
-        let sessions = [first, second];
+        let sessions = [fresh(mesh)?, fresh(&other)?];
+        // A planned mesh has a link: it has two nodes or more.
+        let last = mesh.count - 1;
         Ok(Subject { sessions, last })
     }
 
@@ -84,16 +107,13 @@ impl Subject {
     }
 }
 
-/// The session just after a cut of the last link, and that link.
-fn just_cut(mesh: &Mesh) -> Result<(Session, u16), Refusal> {
+/// A fresh session on the mesh's plan.
+fn fresh(mesh: &Mesh) -> Result<Session, Refusal> {
     let (plan, answer) = plan(mesh);
     answer?;
-    let (mut session, answer) = start(mesh, &plan);
+    let (session, answer) = start(mesh, &plan);
     answer?;
-    // A planned mesh has a link: it has two nodes or more.
-    let last = mesh.count - 1;
-    session.cut(last)?;
-    Ok((session, last))
+    Ok(session)
 }
 
 /// A link under way; just after a cut on a planned mesh there is one.

@@ -1,4 +1,4 @@
-//! Two programs at a job each, on the same book.
+//! Programs at a job each, on the same book.
 
 use std::io;
 use std::time::Duration;
@@ -20,33 +20,44 @@ const LONGEST_TRIAL: Duration = Duration::from_secs(3);
 
 /// The microseconds of one call in each program; an error if they ever print
 /// different lines. The programs run by turns.
-pub fn contest(programs: [&Program; 2], jobs: [u8; 2], book: &[u8]) -> io::Result<[f64; 2]> {
-    let mut runners = [
-        Runner::new(programs[0], jobs[0], book)?,
-        Runner::new(programs[1], jobs[1], book)?,
-    ];
+pub fn contest(programs: &[Program], jobs: &[u8], book: &[u8]) -> io::Result<Vec<f64>> {
+    let mut runners = programs
+        .iter()
+        .zip(jobs)
+        .map(|(program, job)| Runner::new(program, *job, book))
+        .collect::<io::Result<Vec<Runner>>>()?;
     for _ in 0..RUNS {
-        let [first, second] = &mut runners;
-        let texts = [first.round()?, second.round()?];
-        if texts[0] != texts[1] {
-            return Err(io::Error::other(format!("different lines: {texts:?}")));
-        }
+        let texts = runners
+            .iter_mut()
+            .map(Runner::round)
+            .collect::<io::Result<Vec<_>>>()?;
+        same(&texts)?;
     }
-    Ok(runners.map(|runner| runner.microseconds()))
+    Ok(runners.iter().map(Runner::microseconds).collect())
 }
 
 /// The microseconds of a whole run of each program on the same input, start
 /// and end of the process included; an error if they print different texts.
-pub fn whole(programs: [&Program; 2], input: &[u8]) -> io::Result<[f64; 2]> {
-    let mut best = [Duration::MAX; 2];
+pub fn whole(programs: &[Program], input: &[u8]) -> io::Result<Vec<f64>> {
+    let mut best = vec![Duration::MAX; programs.len()];
     for _ in 0..3 * RUNS {
-        let runs = [programs[0].run(input)?, programs[1].run(input)?];
-        if runs[0].text != runs[1].text {
-            return Err(io::Error::other("different texts"));
+        let mut texts = Vec::new();
+        for (program, best) in programs.iter().zip(&mut best) {
+            let run = program.run(input)?;
+            *best = run.time.min(*best);
+            texts.push(run.text);
         }
-        best = [best[0].min(runs[0].time), best[1].min(runs[1].time)];
+        same(&texts)?;
     }
-    Ok(best.map(|time| time.as_secs_f64() * 1e6))
+    Ok(best.iter().map(|time| time.as_secs_f64() * 1e6).collect())
+}
+
+/// An error if the programs printed different texts.
+fn same<T: PartialEq + std::fmt::Debug>(texts: &[T]) -> io::Result<()> {
+    match texts.iter().all(|text| *text == texts[0]) {
+        true => Ok(()),
+        false => Err(io::Error::other(format!("different texts: {texts:?}"))),
+    }
 }
 
 /// A program at one job, with its best times so far.

@@ -26,25 +26,20 @@ impl Counter {
     }
 
     /// The instructions of one call in each program.
-    pub fn of_calls(
-        &self,
-        programs: [&Program; 2],
-        jobs: [u8; 2],
-        book: &[u8],
-    ) -> io::Result<[f64; 2]> {
-        let of = |i: usize| {
-            let few = self.count(programs[i], &input(jobs[i], FEW, book))?;
-            let many = self.count(programs[i], &input(jobs[i], MANY, book))?;
+    pub fn of_calls(&self, programs: &[Program], jobs: &[u8], book: &[u8]) -> io::Result<Vec<f64>> {
+        let of = |(program, job): (&Program, &u8)| {
+            let few = self.count(program, &input(*job, FEW, book))?;
+            let many = self.count(program, &input(*job, MANY, book))?;
             let more = many.saturating_sub(few) as f64;
-            Ok::<f64, io::Error>(more / f64::from(MANY - FEW))
+            Ok(more / f64::from(MANY - FEW))
         };
-        Ok([of(0)?, of(1)?])
+        programs.iter().zip(jobs).map(of).collect()
     }
 
     /// The instructions of a whole run of each program.
-    pub fn of_runs(&self, programs: [&Program; 2], input: &[u8]) -> io::Result<[f64; 2]> {
-        let of = |i: usize| self.count(programs[i], input);
-        Ok([of(0)? as f64, of(1)? as f64])
+    pub fn of_runs(&self, programs: &[Program], input: &[u8]) -> io::Result<Vec<f64>> {
+        let of = |program: &Program| Ok(self.count(program, input)? as f64);
+        programs.iter().map(of).collect()
     }
 
     fn count(&self, program: &Program, input: &[u8]) -> io::Result<u64> {
