@@ -8,7 +8,7 @@ use Rattle.scan.specs.Entry.{at}
 use Rattle.scan.specs.Total.{count}
 use Rattle.flood.specs.declared.Route.{Route}
 use Rattle.flood.specs.Digraph.{Digraph, Failure}
-use Rattle.flood.specs.Machine.{Flood, underWay, first, some, atRest, run}
+use Rattle.flood.specs.Machine.{underWay, first, some}
 
 -- a digraph with a failure, as arrays. Link i leads from tails[i] to heads[i]; it may be offered if open[i] is its tail
 pub record Topology : Type 0 where

@@ -1,6 +1,5 @@
 -- `mesh::check` meets its contract: the checks on the parts of a mesh are the mesh checks.
-use Prim.Native.Nat.{ℕ}
-use mathlib.Core.Path.{_≡_, ap, _∙_}
+use mathlib.Core.Path.{_∙_}
 use borrow.Author.Needs.{needs}
 use Rattle.mesh.specs.Parts.{partsAnswer}
 use Rattle.mesh.specs.Laws.Parts.{ends-in, parts-answer}

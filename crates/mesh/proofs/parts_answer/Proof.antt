@@ -1,7 +1,6 @@
 -- `mesh::parts_answer` meets its contract: each return rewrites with the answers that led there.
 use mathlib.Core.Path.{_≡_, sym, _∙_}
 use mathlib.Core.Bool.{true}
-use Prim.Native.Nat.{_≤_}
 use borrow.Author.Needs.{needs}
 use borrow.Author.Tests.{not-true, not-false, leb-true}
 use Rattle.mesh.specs.Mesh.{nodesFit, countFits}

@@ -1,22 +1,15 @@
 -- What one turn of a loop over the links does to the checks. Serves the law of a mesh's parts and the proof of `split`. Assumes nothing.
-use Prim.Native.Nat.{ℕ, _+_, _*_, _≤_, _<_}
-use mathlib.Core.Path.{_≡_, refl, _∙_}
-use mathlib.Core.Logic.{inl, inr, ⊎-elim, _↔_}
+use Prim.Native.Nat.{ℕ, _+_, _≤_, _<_}
+use mathlib.Core.Path.{_≡_, refl}
 use mathlib.Core.Bool.{Bool, true, false, _&&_}
 use mathlib.Core.List.{List}
-use native.Mathlib.Decide.{decLt}
 use native.Mathlib.Numerals.{add-one}
-use native.Mathlib.Omega.{arith}
 use lib.ListN.{length, getD, take, drop, drop-of-length-le}
 use lib.Seq.{drop-cons}
-use Rattle.scan.specs.Test.{Says}
 use Rattle.scan.specs.Part.{drop-take, drop-take-end}
 use Rattle.mesh.specs.declared.Link.{Link}
-use Rattle.mesh.specs.declared.Answer.{Answer}
-use Rattle.mesh.specs.declared.Answer.the-variants.{Accepted, Refused}
-use Rattle.mesh.specs.Mesh.{zeroLink, follows, linkAnswer, andThen, linksAnswer, isZero, allZero}
-use Rattle.mesh.specs.WellFormed.{Rises}
-use Rattle.mesh.specs.Laws.Ends.{follows-says, ends-accepted}
+use Rattle.mesh.specs.declared.Answer.the-variants.{Accepted}
+use Rattle.mesh.specs.Mesh.{zeroLink, linkAnswer, andThen, linksAnswer, isZero, allZero}
 
 module _ (n : ℕ) (p : Link) (links : List Link) (k i : ℕ) where
   -- link i, or there is none

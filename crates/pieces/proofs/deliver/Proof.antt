@@ -2,7 +2,6 @@
 use mathlib.Core.Path.{_≡_, refl, sym, ap, _∙_}
 use borrow.Author.Needs.{needs}
 use Rattle.mesh.specs.declared.Answer.{Answer}
-use Rattle.mesh.specs.declared.Answer.the-variants.{Accepted}
 use Rattle.mesh.specs.Laws.Answer.{refused-accepted}
 use Rattle.flood.specs.declared.Flood.{Flood}
 use Rattle.flood.specs.Machine.{step}

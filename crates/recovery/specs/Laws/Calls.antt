@@ -24,7 +24,6 @@ use Rattle.pieces.specs.Counts.{lengthBy}
 use Rattle.pieces.specs.Pieces.{chosen, lost, AfterDelivery, AfterRun, OfLink, linksWhere, OfRoute}
 use Rattle.pieces.specs.Laws.Counts.{under-way-counted, length-counted}
 use Rattle.recovery.specs.declared.Session.{Session}
-use Rattle.recovery.specs.declared.Change.{Change}
 use Rattle.recovery.specs.declared.Delivered.{Delivered}
 use Rattle.recovery.specs.declared.Delivered.the-variants as delivered
 use Rattle.recovery.specs.declared.Delivery.{Delivery}

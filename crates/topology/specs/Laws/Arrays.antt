@@ -1,11 +1,11 @@
 -- The arrays that the code fills are those of the topology under a cut. Assumes nothing.
-use Prim.Native.Nat.{ℕ, _<_, min}
+use Prim.Native.Nat.{ℕ, min}
 use mathlib.Core.Path.{_≡_, refl, ap, _∙_}
 use mathlib.Core.Bool.{cond}
 use mathlib.Core.List.{List}
 use native.Mathlib.Omega.{arith}
 use lib.Dec.{eqb}
-use lib.ListN.{length, set, replicate}
+use lib.ListN.{set, replicate}
 use Rattle.scan.specs.Entry.{at}
 use Rattle.scan.specs.Fill.{filled, tableOf, fill-all, fill-same, table-filled}
 use Rattle.mesh.specs.declared.Mesh.{Mesh}

@@ -1,7 +1,7 @@
 -- `mesh::ends::first_refusal` meets its contract. The loop keeps that the answer of all entries is that of those from i on, and that `prev` has
 -- the ends of the entry before.
-use Prim.Native.Nat.{_-_, _/_, _%_, _≤_}
-use mathlib.Core.Path.{_≡_, refl, sym, ap, _∙_}
+use Prim.Native.Nat.{_-_, _≤_}
+use mathlib.Core.Path.{_≡_, sym, ap, _∙_}
 use mathlib.Core.List.{_∷_}
 use native.Mathlib.Numerals.{add-one}
 use native.Mathlib.Omega.{arith}

@@ -1,5 +1,5 @@
 -- `recovery::Session::cut` meets its contract: the answer says of the cut and of the flood whether they stay.
-use mathlib.Core.Path.{_≡_, ap, _∙_}
+use mathlib.Core.Path.{ap, _∙_}
 use borrow.Author.Needs.{needs}
 use Rattle.mesh.specs.declared.Answer.{Answer}
 use Rattle.flood.specs.Digraph.{cut}

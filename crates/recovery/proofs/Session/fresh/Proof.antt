@@ -1,9 +1,8 @@
 -- `recovery::Session::fresh` meets its contract: its flood is quiet.
-use mathlib.Core.Path.{_≡_, ap}
+use mathlib.Core.Path.{ap}
 use borrow.Author.Needs.{needs}
 use Rattle.flood.specs.declared.Flood.{Flood}
 use Rattle.formed.specs.declared.Cut.the-variants as cuts
-use Rattle.recovery.specs.declared.Session.{Session}
 use Rattle.recovery.proofs.Session.fresh.Statement.{statement}
 use Rattle.recovery.proofs.Session.fresh.Tie as tie
 

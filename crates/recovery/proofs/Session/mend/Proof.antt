@@ -1,5 +1,5 @@
 -- `recovery::Session::mend` meets its contract: refused, the cut and the flood stay; accepted, there is no cut and the flood is quiet.
-use mathlib.Core.Path.{_≡_, ap, _∙_}
+use mathlib.Core.Path.{ap, _∙_}
 use borrow.Author.Needs.{needs}
 use Rattle.mesh.specs.declared.Answer.{Answer}
 use Rattle.flood.specs.Machine.{fresh}
