@@ -3,7 +3,6 @@ use crate::Link;
 use crate::Mesh;
 use crate::ends::lower;
 ghost use mathlib.Core.Path.{_≡_};
-ghost use Prim.Native.Nat.{_<_};
 ghost use lib.Dec.{eqb};
 ghost use Rattle.mesh.specs.Mesh.{isZero};
 ghost use Rattle.mesh.specs.WellFormed.{InRange};
