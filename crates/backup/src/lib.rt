@@ -10,7 +10,8 @@ ghost use Rattle.flood.specs.Machine.{begin};
 ghost use Rattle.flood.specs.Lent.{flood};
 ghost use Rattle.flooding.specs.Ended.{Ended, followed};
 ghost use Rattle.topology.specs.Backup.{backup};
-ghost use Rattle.backup.specs.Given.{Given, Stepped};
+ghost use Rattle.pieces.specs.Given.{Given};
+ghost use Rattle.backup.specs.Stepped.{Stepped};
 
 // What became of a delivery's link: its state, and the nodes from which and to which it leads.
 pub struct Acted {

@@ -4,7 +4,6 @@ ghost use Rattle.recovery.specs.Calls.{afterCut, afterDelivery, afterMend};
 use recovery::Change;
 use recovery::Delivery;
 use recovery::Session;
-use recovery::in_place;
 
 pub(crate) fn cut(s: Session, link: u16) -> Change
     ensures { λ r. ⌜ r ≡ afterCut s link ⌝ }

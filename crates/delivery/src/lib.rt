@@ -11,8 +11,6 @@ ghost use Rattle.flood.specs.Machine.{begin, arrive, withdraw, step};
 ghost use Rattle.flood.specs.Lent.{graph, failure, flood};
 ghost use Rattle.delivery.specs.Moved.{Moved};
 use states::links_of;
-use states::offer;
-use states::search;
 
 fn is_reached(reached: &[bool], v: u8) -> bool
     ensures { λ r. ⌜ r ≡ has (now (reached .entry)) v ⌝ }

@@ -3,7 +3,6 @@ ghost use Prim.Native.Nat.{ℕ, min};
 ghost use Rattle.flood.specs.Lent.{graph, failure, flood};
 ghost use Rattle.flooding.specs.Ended.{Ended};
 use states::links_of;
-use states::search;
 
 // What a run did: how many deliveries it made, and whether no link is under way then.
 pub struct Outcome {

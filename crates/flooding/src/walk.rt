@@ -5,7 +5,6 @@ ghost use Rattle.flood.specs.Lent.{graph};
 ghost use Rattle.flooding.specs.Ended.{followed};
 use flood::Route;
 use states::links_of;
-use states::search;
 
 // Each the lowest taken link that leaves the node where the one before ended, at most as many as there are links.
 pub fn follow(

@@ -1,10 +1,8 @@
 -- The test of a session's record: the mesh checks, then 13 (01, "Refusals from the input" and "Order"). Definitions only.
 use Prim.Native.Nat.{ℕ}
-use mathlib.Core.Bool.{Bool, false, cond, not, _&&_, _||_}
-use mathlib.Core.List.{List}
-use lib.Dec.{ltb, leb}
-use Rattle.scan.specs.Entry.{at, has}
-use Rattle.scan.specs.Lowest.{any}
+use mathlib.Core.Bool.{Bool, false, not, _||_}
+use lib.Dec.{leb}
+use Rattle.entries.specs.Entries.{overflows, strays}
 use Rattle.mesh.specs.declared.Mesh.{Mesh}
 use Rattle.mesh.specs.declared.Plan.{Plan}
 use Rattle.mesh.specs.declared.Answer.{Answer}
@@ -13,22 +11,6 @@ use Rattle.mesh.specs.Mesh.{must, andThen, meshAnswer}
 use Rattle.flood.specs.declared.Flood.{Flood}
 use Rattle.formed.specs.declared.Cut.{Cut}
 use Rattle.formed.specs.declared.Cut.the-variants as cut
-
--- entry i, of value v, is above `top`, or past the last link and not zero
-unfoldable pub isOver : ℕ → ℕ → ℕ → ℕ → Bool
-isOver links top i v = ltb (cond (ltb i links) top 0) v
-
--- some of the 256 entries is
-unfoldable pub overflows : ℕ → ℕ → List ℕ → Bool
-overflows links top entries = any (λ i. isOver links top i (at entries i)) 256
-
--- node v is reached, as r says, and not below N
-unfoldable pub isStray : ℕ → ℕ → Bool → Bool
-isStray nodes v r = leb nodes v && r
-
--- some of the 64 nodes is
-unfoldable pub strays : ℕ → List Bool → Bool
-strays nodes reached = any (λ v. isStray nodes v (has reached v)) 64
 
 -- the cut link; 0 where there is none
 abbrev pub cutLink : Cut → ℕ

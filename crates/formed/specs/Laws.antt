@@ -1,4 +1,3 @@
 pub mod Forming
 pub mod Fresh
 pub mod Pieces
-pub mod Scans

@@ -6,7 +6,8 @@ use Rattle.mesh.specs.declared.Answer.{Answer}
 use Rattle.mesh.specs.declared.Answer.the-variants.{Accepted}
 use Rattle.mesh.specs.Mesh.{must, andThen}
 use Rattle.formed.specs.declared.Cut.{Cut}
-use Rattle.formed.specs.Formed.{overflows, strays, misplaced}
+use Rattle.entries.specs.Entries.{overflows, strays}
+use Rattle.formed.specs.Formed.{misplaced}
 
 -- the plan, the cut or the flood of a mesh with n nodes and k links is ill formed
 unfoldable pub illFormed : ℕ → ℕ → List ℕ → Cut → List ℕ → List Bool → Bool

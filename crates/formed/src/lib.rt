@@ -3,9 +3,6 @@ ghost use mathlib.Core.Path.{_≡_};
 ghost use Rattle.mesh.specs.Parts.{partsAnswer};
 ghost use Rattle.formed.specs.Formed.{cutLink, misplaced};
 ghost use Rattle.formed.specs.Pieces.{illFormed, recordAfter};
-
-mod entries;
-
 use entries::Kind;
 use entries::has_bad_entry;
 use entries::has_stray;

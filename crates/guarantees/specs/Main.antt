@@ -147,14 +147,14 @@ refused-unaltered = refused-keeps
 pub call-refuses : (s : Session) (number place : ℕ) → recordAnswer s ≡ Refused number place → (c : Call) → reply c s ≡ refusedAt c number place
 call-refuses = record-refusal-answers
 
--- ---- demand 2: the recovery calls, on every session (contracts: crates/recovery/src/lib.rt and crates/recovery/src/in_place.rt)
+-- ---- demand 2: the recovery calls, on every session (contracts: crates/recovery/src/lib.rt and crates/in_place/src/lib.rt)
 
 -- on any session whose record is accepted, whatever led to it, every call, by value or in place, refused or not, does what 01's rules say: they give
 -- its answer, and the cut, states and reached nodes of the session that it returns or leaves, on the same mesh and plan
 pub call-follows : (s : Session) → Sized s → recordAnswer s ≡ Accepted → (c : Call) → CallFollows s c
 call-follows = call-as-ruled
 
--- ---- demand 3, over every list of calls (contracts: crates/recovery/src/lib.rt, the calls of `Session`, and crates/recovery/src/in_place.rt, those
+-- ---- demand 3, over every list of calls (contracts: crates/recovery/src/lib.rt, the calls of `Session`, and crates/in_place/src/lib.rt, those
 -- of them on a session that the host lends; crates/lists/src/lib.rt, `make_calls`, by which programs make such a list)
 
 -- after any list of calls, by value and in place in any mix and refused ones included, from the session that a start on a planned mesh and its plan gives: at most 2 × (L - 1) deliveries

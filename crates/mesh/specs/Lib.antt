@@ -3,5 +3,4 @@ pub mod WellFormed
 pub mod Refusal
 pub mod Arc
 pub mod Parts
-pub mod Quick
 pub mod Laws

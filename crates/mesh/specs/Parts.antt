@@ -1,11 +1,12 @@
 -- A mesh taken apart, as functions that are lent arrays get it: N, L, the ends of the links as numbers, and whether each entry past the last
 -- link is zero. The mesh checks on these parts. Definitions only.
-use Prim.Native.Nat.{ℕ, zero, suc, _+_, _*_, _/_, _%_, min}
+use Prim.Native.Nat.{ℕ, zero, suc, _+_, _*_, min}
 use mathlib.Core.Bool.{Bool}
 use mathlib.Core.List.{List, _∷_}
 use lib.ListN.{drop}
 use Rattle.scan.specs.Entry.{at}
 use Rattle.scan.specs.Fill.{filled, tableOf}
+use Rattle.ends.specs.Ends.{lowOf, highOf}
 use Rattle.mesh.specs.declared.Link.{Link}
 use Rattle.mesh.specs.declared.Mesh.{Mesh}
 use Rattle.mesh.specs.declared.Answer.{Answer}
@@ -16,13 +17,6 @@ use Rattle.mesh.specs.WellFormed.{link}
 -- the ends of a link as one number, which rises as the pairs (low, high) do
 abbrev pub endsOf : Link → ℕ
 endsOf l = 256 * l .low + l .high
-
--- the low and the high end of such a number
-abbrev pub lowOf : ℕ → ℕ
-lowOf e = e / 256
-
-abbrev pub highOf : ℕ → ℕ
-highOf e = e % 256
 
 -- an array of 256 entries whose first become the ends of m's links
 abbrev pub endsInto : Mesh → List ℕ → List ℕ

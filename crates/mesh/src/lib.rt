@@ -4,7 +4,7 @@ ghost use Rattle.mesh.specs.Mesh.{zeroLink, zeroMesh, meshAnswer, endsAn
 ghost use Rattle.mesh.specs.WellFormed.{InRange};
 ghost use Rattle.mesh.specs.Parts.{partsAnswer};
 
-mod ends;
+mod in_turn;
 mod links;
 
 pub use links::split;
@@ -120,7 +120,7 @@ pub fn parts_answer(nodes: u8, count: u16, zeros: bool, ends: &[u16; 256]) -> An
             place: 0,
         };
     }
-    let a = ends::ends_in_turn(nodes, count as usize, ends);
+    let a = in_turn::ends_in_turn(nodes, count as usize, ends);
     let Answer::Accepted = a else {
         return a;
     };

@@ -1,7 +1,7 @@
 // The loops over a mesh's 256 entries.
 use crate::Link;
 use crate::Mesh;
-use crate::ends::lower;
+use ends::lower;
 ghost use mathlib.Core.Path.{_≡_};
 ghost use lib.Dec.{eqb};
 ghost use Rattle.mesh.specs.Mesh.{isZero};

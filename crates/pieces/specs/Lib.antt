@@ -1,3 +1,3 @@
-pub mod Counts
+pub mod Given
 pub mod Pieces
 pub mod Laws

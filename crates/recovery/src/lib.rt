@@ -1,23 +1,20 @@
 // The recovery machine: a session on a mesh and a plan, and its calls by value. Each call takes the session apart once, hands its pieces to a
-// function of the crate `pieces`, and puts the session together once.
+// function of the crate `changes` or `queries`, and puts the session together once.
 ghost use mathlib.Core.Path.{_≡_};
 ghost use lib.ListN.{replicate};
 ghost use Rattle.flood.specs.Machine.{fresh};
 ghost use Rattle.pieces.specs.Pieces.{chosen};
 ghost use Rattle.recovery.specs.Calls.{freshOn, started, afterCut, afterDelivery, afterRun, afterMend, statusOf, acted, routed};
 ghost use Rattle.recovery.specs.Pieces.{deliveredBy, reportBy, statusBy};
-
-pub mod in_place;
-
+use changes::Made;
+use changes::Moved;
 use flood::Flood;
 use flood::Route;
 use formed::Cut;
 use mesh::Answer;
 use mesh::Mesh;
 use mesh::Plan;
-use pieces::Made;
-use pieces::Moved;
-use pieces::Told;
+use queries::Told;
 
 pub struct Session {
     pub mesh: Mesh,
@@ -101,7 +98,7 @@ impl Session {
     {
         let flood = quiet();
         let cut = Cut::Nothing;
-        let answer = pieces::tested(mesh, &plan.directions, cut, &flood.states, &flood.reached);
+        let answer = queries::tested(mesh, &plan.directions, cut, &flood.states, &flood.reached);
         let Answer::Accepted = answer else {
             let session = Session::fresh(mesh::zero_mesh(), zero_plan());
             return Change { session, answer };
@@ -125,7 +122,7 @@ impl Session {
         let f = self.flood;
         let mut states = f.states;
         let mut reached = f.reached;
-        let answer = pieces::cut(
+        let answer = changes::cut(
             mesh,
             &plan.directions,
             before,
@@ -154,7 +151,7 @@ impl Session {
         let f = self.flood;
         let mut states = f.states;
         let mut reached = f.reached;
-        let moved = pieces::deliver(mesh, &plan.directions, cut, &mut states, &mut reached, link);
+        let moved = changes::deliver(mesh, &plan.directions, cut, &mut states, &mut reached, link);
         let answer = delivery_answer(moved);
         let flood = Flood { states, reached };
         self.flood = flood;
@@ -172,7 +169,7 @@ impl Session {
         let f = self.flood;
         let mut states = f.states;
         let mut reached = f.reached;
-        let made = pieces::run(
+        let made = changes::run(
             mesh,
             &plan.directions,
             cut,
@@ -195,7 +192,7 @@ impl Session {
         let plan = self.plan;
         let before = self.cut;
         let f = self.flood;
-        let answer = pieces::mend_answer(
+        let answer = queries::mend_answer(
             mesh,
             &plan.directions,
             before,
@@ -222,7 +219,7 @@ impl Session {
         let plan = self.plan;
         let cut = self.cut;
         let flood = self.flood;
-        let told = pieces::status(
+        let told = queries::status(
             mesh,
             &plan.directions,
             cut,
@@ -241,7 +238,7 @@ impl Session {
         let plan = self.plan;
         let cut = self.cut;
         let flood = self.flood;
-        let found = pieces::route(mesh, &plan.directions, cut, &flood.states, &flood.reached);
+        let found = queries::route(mesh, &plan.directions, cut, &flood.states, &flood.reached);
         let route = found.route;
         let answer = found.answer;
         Routed { route, answer }

@@ -1,12 +1,11 @@
-// Scans over the links' states, on arrays that are lent: searches, offers and counts. Of the links that are said to be there the first 256 count.
+// Tests on a link's state, and counts over the states of the links, on arrays that are lent. Of the links that are said to be there the first 256
+// count.
 ghost use mathlib.Core.Path.{_≡_};
 ghost use Prim.Native.Nat.{min};
 ghost use Rattle.flood.specs.Machine.{underWay};
 
 pub mod count;
-pub mod offer;
-pub mod search;
-mod state;
+pub mod state;
 
 // How many of `count` links the arrays have room for.
 pub fn links_of(count: usize) -> usize

@@ -2,12 +2,12 @@
 ghost use mathlib.Core.Path.{_≡_};
 ghost use Rattle.flood.specs.Machine.{live};
 
-pub(crate) const QUIET: u8 = 0;
+pub const QUIET: u8 = 0;
 
-pub(crate) const TAKEN: u8 = 2;
+pub const TAKEN: u8 = 2;
 
 // Offered, taken or refused.
-pub(crate) fn is_live(v: u8) -> bool
+pub fn is_live(v: u8) -> bool
     ensures { λ r. ⌜ r ≡ live v ⌝ }
 {
     match v {

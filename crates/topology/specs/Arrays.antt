@@ -5,7 +5,7 @@ use mathlib.Core.List.{List}
 use lib.Dec.{eqb}
 use Rattle.scan.specs.Entry.{at}
 use Rattle.scan.specs.Fill.{filled}
-use Rattle.mesh.specs.Parts.{lowOf, highOf}
+use Rattle.ends.specs.Ends.{lowOf, highOf}
 
 -- where the back-up arc of a link with the ends e and the direction d starts, and where it ends
 abbrev pub tailBy : ℕ → ℕ → ℕ

@@ -17,7 +17,7 @@ use Rattle.topology.specs.Backup.{backup, underCut}
 use Rattle.topology.specs.Arrays.{tailsInto, headsInto}
 use Rattle.topology.specs.Laws.Arrays.{under-cut-is}
 use Rattle.topology.specs.Laws.Backup.{cut-digraph, cut-failure}
-use Rattle.backup.specs.Given.{Given}
+use Rattle.pieces.specs.Given.{Given}
 
 -- what `under_cut` gives, from arrays of zeros
 abbrev pub Laid : ℕ → List ℕ → List ℕ → ℕ → List ℕ → List ℕ → List ℕ → ℕ → ℕ → Type 0

@@ -11,7 +11,8 @@ use Rattle.mesh.specs.Parts.{endsIn, restZero, partsAnswer}
 use Rattle.mesh.specs.Laws.Parts.{parts-answer}
 use Rattle.flood.specs.declared.Flood.{Flood}
 use Rattle.formed.specs.declared.Cut.{Cut}
-use Rattle.formed.specs.Formed.{overflows, strays, misplaced, planFault, floodFault, startAnswer, recordAnswer}
+use Rattle.entries.specs.Entries.{overflows, strays}
+use Rattle.formed.specs.Formed.{misplaced, planFault, floodFault, startAnswer, recordAnswer}
 use Rattle.formed.specs.Pieces.{illFormed, recordAfter}
 
 -- after an answer, 13 for the plan and then for the cut and the flood is 13 for one of the tests

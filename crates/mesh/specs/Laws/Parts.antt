@@ -1,18 +1,18 @@
 -- The mesh checks on the parts of a mesh are the mesh checks, and what the loops over the ends do to them. Assumes nothing.
 use Prim.Native.Nat.{ℕ, zero, suc, _+_, _-_, _/_, _%_, _<_, _≤_, min}
 use mathlib.Core.Path.{_≡_, refl, sym, ap, _∙_}
-use mathlib.Core.Logic.{_⊎_, inl, inr, ⊎-elim}
-use mathlib.Core.Bool.{Bool, true, false, _||_}
+use mathlib.Core.Logic.{_⊎_, inl, inr}
+use mathlib.Core.Bool.{Bool, true, false}
 use mathlib.Core.List.{List, _∷_}
 use native.Mathlib.Decide.{decLt}
 use native.Mathlib.Numerals.{add-one}
 use native.Mathlib.Omega.{arith}
-use lib.Dec.{eqb, ltb, lit<}
+use lib.Dec.{lit<}
 use lib.ListN.{length, take, drop, replicate}
 use borrow.Author.Tests.{leb-true}
-use Rattle.scan.specs.Test.{or-says, eq-says, lt-says}
 use Rattle.scan.specs.Entry.{at}
 use Rattle.scan.specs.Fill.{fill-all, table-filled}
+use Rattle.ends.specs.Ends.{lowOf, highOf, Fits, Rising}
 use Rattle.mesh.specs.declared.Link.{Link}
 use Rattle.mesh.specs.declared.Mesh.{Mesh}
 use Rattle.mesh.specs.declared.Answer.{Answer}
@@ -20,8 +20,7 @@ use Rattle.mesh.specs.declared.Answer.the-variants.{Accepted, Refused}
 use Rattle.mesh.specs.Mesh.{must, andThen, zeroLink, nodesFit, countFits, endsAnswer, linkAnswer, linksAnswer, meshAnswer}
 use Rattle.mesh.specs.WellFormed.{link, InRange}
 use Rattle.mesh.specs.Refusal.{previous}
-use Rattle.mesh.specs.Parts.{endsOf, lowOf, highOf, endsInto, endsIn, restZero, entryAnswer, entriesAnswer, partsAnswer}
-use Rattle.mesh.specs.Quick.{Fits, Rising}
+use Rattle.mesh.specs.Parts.{endsOf, endsInto, endsIn, restZero, entryAnswer, entriesAnswer, partsAnswer}
 use Rattle.mesh.specs.Laws.Ends.{follows-says, ends-accepted}
 use Rattle.mesh.specs.Laws.Links.{links-step, links-end}
 
@@ -44,10 +43,6 @@ module _ (n : ℕ) (ends : List ℕ) (k i : ℕ) where
   entries-end h = let e : k - i ≡ 0 = omega arith in rw e
 
 -- ---- the quick test
-
--- what the test of an entry says
-pub rises : (ends : List ℕ) (i : ℕ) → (eqb (at ends i) 0 || ltb (at ends (i - 1)) (at ends i)) ≡ true → Rising ends i
-rises ends i t h = ⊎-elim (λ (z : at ends i ≡ 0). absurd (omega arith)) (λ w. w) (or-says (eq-says (at ends i) 0) (lt-says (at ends (i - 1)) (at ends i)) .0 t)
 
 -- an entry is accepted whose low end is below its high end, that a node, and which is above the entry before it
 module _ (n : ℕ) (ends : List ℕ) (i : ℕ) (fits : Fits n ends i) where

@@ -16,13 +16,15 @@ use Rattle.formed.specs.declared.Cut.{Cut}
 use Rattle.formed.specs.declared.Cut.the-variants as cuts
 use Rattle.formed.specs.Formed.{cutLink}
 use Rattle.refusals.specs.Refusals.{standing}
-use Rattle.pieces.specs.declared.Moved.{Moved}
-use Rattle.pieces.specs.declared.Made.{Made}
-use Rattle.pieces.specs.declared.Told.{Told}
-use Rattle.pieces.specs.declared.Found.{Found}
-use Rattle.pieces.specs.Counts.{lengthBy}
-use Rattle.pieces.specs.Pieces.{chosen, lost, AfterDelivery, AfterRun, OfLink, linksWhere, OfRoute}
-use Rattle.pieces.specs.Laws.Counts.{under-way-counted, length-counted}
+use Rattle.pieces.specs.Pieces.{chosen, lost}
+use Rattle.changes.specs.declared.Moved.{Moved}
+use Rattle.changes.specs.declared.Made.{Made}
+use Rattle.changes.specs.Changes.{AfterDelivery, AfterRun}
+use Rattle.queries.specs.declared.Told.{Told}
+use Rattle.queries.specs.declared.Found.{Found}
+use Rattle.queries.specs.Counts.{lengthBy}
+use Rattle.queries.specs.Queries.{OfLink, linksWhere, OfRoute}
+use Rattle.queries.specs.Laws.Counts.{under-way-counted, length-counted}
 use Rattle.recovery.specs.declared.Session.{Session}
 use Rattle.recovery.specs.declared.Delivered.{Delivered}
 use Rattle.recovery.specs.declared.Delivered.the-variants as delivered

@@ -12,7 +12,8 @@ use Rattle.mesh.specs.declared.Mesh.{Mesh}
 use Rattle.mesh.specs.declared.Plan.{Plan}
 use Rattle.mesh.specs.Arc.{backTail, backHead}
 use Rattle.mesh.specs.WellFormed.{link, InRange}
-use Rattle.mesh.specs.Parts.{endsOf, lowOf, highOf, endsIn}
+use Rattle.ends.specs.Ends.{lowOf, highOf}
+use Rattle.mesh.specs.Parts.{endsOf, endsIn}
 use Rattle.flood.specs.Topology.{Topology}
 use Rattle.topology.specs.Backup.{underCut}
 use Rattle.topology.specs.Arrays.{tailBy, headBy, tailsInto, headsInto}

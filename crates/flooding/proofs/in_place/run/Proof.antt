@@ -5,7 +5,7 @@ use native.Mathlib.Omega.{arith}
 use borrow.Author.Needs.{needs}
 use Rattle.scan.specs.Lowest.{None, none-yet}
 use Rattle.flood.specs.Lent.{graph, failure, flood, busy}
-use Rattle.states.specs.Laws.Loops.{lowest-onward}
+use Rattle.search.specs.Laws.Loops.{lowest-onward}
 use Rattle.flooding.specs.Laws.Turns.{Running, lowest-clear, running-none, running-turn, ended-rest, ended-used}
 use Rattle.flooding.proofs.in_place.run.Statement.{statement}
 use Rattle.flooding.proofs.in_place.run.Tie as tie

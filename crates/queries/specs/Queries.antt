@@ -1,0 +1,45 @@
+-- What the calls that leave the flood alone give on the pieces of a session. Definitions only.
+use Prim.Native.Nat.{ℕ}
+use mathlib.Core.Path.{_≡_}
+use mathlib.Core.Bool.{Bool, cond}
+use mathlib.Core.List.{List, []}
+use Rattle.scan.specs.Entry.{at}
+use Rattle.mesh.specs.declared.Mesh.{Mesh}
+use Rattle.mesh.specs.declared.Answer.{Answer}
+use Rattle.mesh.specs.declared.Answer.the-variants.{Accepted, Refused}
+use Rattle.flood.specs.declared.Flood.{Flood}
+use Rattle.flood.specs.Machine.{atRest}
+use Rattle.flood.specs.Topology.{routeFrom, asRoute, underWayOf}
+use Rattle.formed.specs.declared.Cut.{Cut}
+use Rattle.refusals.specs.Refusals.{runAnswer, mendAnswer, statusAnswer}
+use Rattle.pieces.specs.Pieces as pieces
+use Rattle.pieces.specs.Pieces.{chosen, digraph, lost}
+use Rattle.queries.specs.declared.Told.{Told}
+use Rattle.queries.specs.declared.Found.{Found}
+use Rattle.queries.specs.Counts.{lengthBy}
+
+module _ (m : Mesh) (directions : List ℕ) (c : Cut) (f : Flood) where
+  -- the answer to the record
+  abbrev tested : Answer
+  tested = pieces.tested m directions c f
+
+  -- the answer to a mend of link k
+  abbrev pub mendOf : ℕ → Answer
+  mendOf k = mendAnswer tested (m .count) c (atRest (digraph m directions) f) k
+
+  -- what is told of link k
+  pub record OfLink (k : ℕ) (r : Told) : Type 0 where
+    pub answer : r .answer ≡ statusAnswer tested (m .count) k
+    pub state : r .answer ≡ Accepted → r .state ≡ at (f .states) k
+    pub busy : r .answer ≡ Accepted → r .«under_way» ≡ underWayOf (m .count) (f .states)
+    pub route : r .answer ≡ Accepted → r .route ≡ lengthBy (m .count) c (f .states) (r .«under_way»)
+    pub zeros : {number place : ℕ} → r .answer ≡ Refused number place → (r .state ≡ 0) × (r .«under_way» ≡ 0) × (r .route ≡ 0)
+
+  -- the taken links from the source on, where b says that no link is under way
+  abbrev pub linksWhere : Bool → List ℕ
+  linksWhere b = cond b (routeFrom (digraph m directions) (m .count) (lost m directions c .source) (f .states)) []
+
+  -- the route that is found
+  pub record OfRoute (r : Found) : Type 0 where
+    pub answer : r .answer ≡ runAnswer tested c
+    pub route : r .route ≡ chosen (r .answer) (asRoute []) (asRoute (linksWhere (atRest (digraph m directions) f)))
