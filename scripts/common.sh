@@ -39,6 +39,21 @@ need_file() {
     [ -r "$1" ] || fail "$1: no permission to read this file"
 }
 
+# Has temporary files written to memory until the script ends, where /dev/shm has room for them and programs can be run from there: a check
+# writes thousands of small files, which takes up to two seconds on a disk and a quarter of a second in memory. `nobody` has to reach the
+# folder, since rt runs programs as that user. A TMPDIR that is set stays.
+use_memory() {
+    local free
+    [ -z "${TMPDIR-}" ] || return 0
+    free=$(df -Pk /dev/shm 2>/dev/null | awk 'NR == 2 { print $4 }')
+    [ "${free:-0}" -ge 2097152 ] || return 0
+    memory=$(mktemp -d /dev/shm/covetureen.XXXXXX 2>/dev/null) || return 0
+    trap 'rm -rf "$memory"' EXIT
+    cp "$(command -v env)" "$memory/tried" && "$memory/tried" true 2>/dev/null || return 0
+    chmod 755 "$memory"
+    export TMPDIR=$memory
+}
+
 # Explains a refusal, by its number and place, on stderr: its row in README.md and, for a table, the lines to look at.
 explain() {
     local number=$1 place=$2 file=${3-}
