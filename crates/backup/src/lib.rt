@@ -1,7 +1,7 @@
 // The flood on the back-up digraph of a mesh under a cut, on arrays that are lent. A mesh is given by its number of links, their directions and
 // their ends as numbers, as `mesh::split` stores them; any other numbers are taken as they are.
 use flood::Route;
-use flooding::in_place::Outcome;
+use flooding::running::Outcome;
 use topology::entry;
 ghost use mathlib.Core.Path.{_≡_};
 ghost use Rattle.mesh.specs.declared.Mesh.{Mesh};
@@ -120,7 +120,7 @@ pub fn run(
         k,
     );
     let links = count as usize;
-    flooding::in_place::run(
+    flooding::running::run(
         &tails,
         &heads,
         &starts,

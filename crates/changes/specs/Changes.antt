@@ -13,24 +13,19 @@ use Rattle.flood.specs.Machine.{begin, step}
 use Rattle.flooding.specs.Ended.{Ended}
 use Rattle.formed.specs.declared.Cut.{Cut}
 use Rattle.refusals.specs.Refusals.{cutAnswer, deliverAnswer, runAnswer}
-use Rattle.pieces.specs.Pieces as pieces
-use Rattle.pieces.specs.Pieces.{chosen, digraph, lost}
+use Rattle.pieces.specs.Pieces.{chosen, digraph, lost, tested}
 use Rattle.changes.specs.declared.Moved.{Moved}
 use Rattle.changes.specs.declared.Made.{Made}
 
 module _ (m : Mesh) (directions : List ℕ) (c : Cut) (f : Flood) where
-  -- the answer to the record
-  abbrev tested : Answer
-  tested = pieces.tested m directions c f
-
   -- a cut of link k, which leaves `got` and answers r
   pub record AfterCut (k : ℕ) (got : Flood) (r : Answer) : Type 0 where
-    pub answer : r ≡ cutAnswer tested (m .count) c k
+    pub answer : r ≡ cutAnswer (tested m directions c f) (m .count) c k
     pub flood : got ≡ chosen r f (begin (digraph m directions) (failures.cut (digraph m directions) k) f)
 
   -- a delivery on link k, which leaves `got` and says r
   pub record AfterDelivery (k : ℕ) (got : Flood) (r : Moved) : Type 0 where
-    pub answer : r .answer ≡ deliverAnswer tested (m .count) c (f .states) k
+    pub answer : r .answer ≡ deliverAnswer (tested m directions c f) (m .count) c (f .states) k
     pub flood : got ≡ chosen (r .answer) f (step (digraph m directions) (lost m directions c) k f)
     pub state : r .answer ≡ Accepted → r .state ≡ at (got .states) k
     pub tail : r .answer ≡ Accepted → r .tail ≡ digraph m directions .tail k
@@ -39,7 +34,7 @@ module _ (m : Mesh) (directions : List ℕ) (c : Cut) (f : Flood) where
 
   -- a run with the allowance n, which leaves `got` and says r
   pub record AfterRun (n : ℕ) (got : Flood) (r : Made) : Type 0 where
-    pub answer : r .answer ≡ runAnswer tested c
+    pub answer : r .answer ≡ runAnswer (tested m directions c f) c
     pub stays : {number place : ℕ} → r .answer ≡ Refused number place → got ≡ f
     pub zeros : {number place : ℕ} → r .answer ≡ Refused number place → (r .made ≡ 0) × (r .rest ≡ false)
     pub ended : r .answer ≡ Accepted → Ended (digraph m directions) (lost m directions c) n f got (r .made) (r .rest)

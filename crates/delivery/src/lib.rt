@@ -42,7 +42,7 @@ pub fn begin(
         (flood (now (states .entry)) (now (reached .entry)))) ⌝ }
 {
     reach(reached, x);
-    offer::offer_all(tails, starts, states, count, x);
+    offers::offer_all(tails, starts, states, count, x);
 }
 
 // A delivery on the offered link k.
@@ -71,7 +71,7 @@ fn arrive(
         states[k] = 2;
         return k;
     }
-    if offer::offer_quiet(tails, starts, states, count, b) {
+    if offers::offer_quiet(tails, starts, states, count, b) {
         states[k] = 2;
         return 0;
     }
@@ -104,10 +104,10 @@ fn withdraw(
     if a == x {
         return k;
     }
-    if search::some_held(tails, states, count, a) {
+    if searches::some_held(tails, states, count, a) {
         return k;
     }
-    let j = search::lowest_taken(heads, states, count, a);
+    let j = searches::lowest_taken(heads, states, count, a);
     if links_of(count) <= j {
         return k;
     }

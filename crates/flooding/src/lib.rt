@@ -1,3 +1,3 @@
 // The flood on arrays that are lent: a run, and the route.
-pub mod in_place;
+pub mod running;
 pub mod walk;

@@ -21,7 +21,7 @@ pub fn follow(
     let mut n: usize = 0;
     let mut node = source;
     while n < links {
-        let i = search::lowest_taken(tails, states, count, node);
+        let i = searches::lowest_taken(tails, states, count, node);
         if links <= i {
             break;
         }

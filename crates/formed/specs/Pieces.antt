@@ -6,7 +6,7 @@ use Rattle.mesh.specs.declared.Answer.{Answer}
 use Rattle.mesh.specs.declared.Answer.the-variants.{Accepted}
 use Rattle.mesh.specs.Mesh.{must, andThen}
 use Rattle.formed.specs.declared.Cut.{Cut}
-use Rattle.entries.specs.Entries.{overflows, strays}
+use Rattle.faults.specs.Faults.{overflows, strays}
 use Rattle.formed.specs.Formed.{misplaced}
 
 -- the plan, the cut or the flood of a mesh with n nodes and k links is ill formed

@@ -3,9 +3,9 @@ ghost use mathlib.Core.Path.{_≡_};
 ghost use Rattle.mesh.specs.Parts.{partsAnswer};
 ghost use Rattle.formed.specs.Formed.{cutLink, misplaced};
 ghost use Rattle.formed.specs.Pieces.{illFormed, recordAfter};
-use entries::Kind;
-use entries::has_bad_entry;
-use entries::has_stray;
+use faults::Kind;
+use faults::has_bad_entry;
+use faults::has_stray;
 use mesh::Answer;
 
 // The cut link, or none.

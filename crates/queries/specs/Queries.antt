@@ -12,24 +12,19 @@ use Rattle.flood.specs.Machine.{atRest}
 use Rattle.flood.specs.Topology.{routeFrom, asRoute, underWayOf}
 use Rattle.formed.specs.declared.Cut.{Cut}
 use Rattle.refusals.specs.Refusals.{runAnswer, mendAnswer, statusAnswer}
-use Rattle.pieces.specs.Pieces as pieces
-use Rattle.pieces.specs.Pieces.{chosen, digraph, lost}
+use Rattle.pieces.specs.Pieces.{chosen, digraph, lost, tested}
 use Rattle.queries.specs.declared.Told.{Told}
 use Rattle.queries.specs.declared.Found.{Found}
 use Rattle.queries.specs.Counts.{lengthBy}
 
 module _ (m : Mesh) (directions : List ℕ) (c : Cut) (f : Flood) where
-  -- the answer to the record
-  abbrev tested : Answer
-  tested = pieces.tested m directions c f
-
   -- the answer to a mend of link k
   abbrev pub mendOf : ℕ → Answer
-  mendOf k = mendAnswer tested (m .count) c (atRest (digraph m directions) f) k
+  mendOf k = mendAnswer (tested m directions c f) (m .count) c (atRest (digraph m directions) f) k
 
   -- what is told of link k
   pub record OfLink (k : ℕ) (r : Told) : Type 0 where
-    pub answer : r .answer ≡ statusAnswer tested (m .count) k
+    pub answer : r .answer ≡ statusAnswer (tested m directions c f) (m .count) k
     pub state : r .answer ≡ Accepted → r .state ≡ at (f .states) k
     pub busy : r .answer ≡ Accepted → r .«under_way» ≡ underWayOf (m .count) (f .states)
     pub route : r .answer ≡ Accepted → r .route ≡ lengthBy (m .count) c (f .states) (r .«under_way»)
@@ -41,5 +36,5 @@ module _ (m : Mesh) (directions : List ℕ) (c : Cut) (f : Flood) where
 
   -- the route that is found
   pub record OfRoute (r : Found) : Type 0 where
-    pub answer : r .answer ≡ runAnswer tested c
+    pub answer : r .answer ≡ runAnswer (tested m directions c f) c
     pub route : r .route ≡ chosen (r .answer) (asRoute []) (asRoute (linksWhere (atRest (digraph m directions) f)))

@@ -23,7 +23,7 @@ use Rattle.mesh.specs.Laws.Checked.{passes, well-formed, accepts}
 use Rattle.flood.specs.declared.Flood.{Flood}
 use Rattle.formed.specs.declared.Cut.{Cut}
 use Rattle.formed.specs.declared.Cut.the-variants as cuts
-use Rattle.entries.specs.Entries.{isOver, overflows, isStray, strays}
+use Rattle.faults.specs.Faults.{isOver, overflows, isStray, strays}
 use Rattle.formed.specs.Formed.{misplaced, planFault, floodFault, startAnswer, recordAnswer}
 use Rattle.formed.specs.WellFormed.{Bounded, PlanFormed, CutFormed, FloodFormed, Formed, Refusal, of-mesh, ill-formed}
 

@@ -15,7 +15,7 @@ use Rattle.mesh.specs.declared.Answer.the-variants.{Accepted, Refused}
 use Rattle.mesh.specs.Mesh.{andThen}
 use Rattle.flood.specs.Machine.{fresh}
 use Rattle.formed.specs.declared.Cut.the-variants.{Nothing}
-use Rattle.entries.specs.Entries.{isOver, overflows, isStray, strays}
+use Rattle.faults.specs.Faults.{isOver, overflows, isStray, strays}
 use Rattle.formed.specs.Formed.{floodFault, startAnswer, recordAnswer}
 
 module _ (m : Mesh) where

@@ -11,7 +11,7 @@ use Rattle.mesh.specs.Parts.{endsIn, restZero, partsAnswer}
 use Rattle.mesh.specs.Laws.Parts.{parts-answer}
 use Rattle.flood.specs.declared.Flood.{Flood}
 use Rattle.formed.specs.declared.Cut.{Cut}
-use Rattle.entries.specs.Entries.{overflows, strays}
+use Rattle.faults.specs.Faults.{overflows, strays}
 use Rattle.formed.specs.Formed.{misplaced, planFault, floodFault, startAnswer, recordAnswer}
 use Rattle.formed.specs.Pieces.{illFormed, recordAfter}
 

@@ -15,7 +15,7 @@ use Rattle.scan.specs.Sweep.{sweep, sweepFrom}
 use Rattle.scan.specs.Total.{total, count}
 use Rattle.flood.specs.Machine.{fresh, underWay, live, offer, feeds, first, some, atRest, accepts, leaves, opens, begin, arrive, retreat, withdraw, step, play, order}
 use Rattle.flood.specs.Machine.{holds as holds′, accepted as deliveredCount, run as machineRun}
-use Rattle.entries.specs.Entries.{isOver, overflows, isStray, strays}
+use Rattle.faults.specs.Faults.{isOver, overflows, isStray, strays}
 use Rattle.formed.specs.Formed.{planFault, floodFault, startAnswer}
 use Rattle.formed.specs.Formed.{recordAnswer as recordSession}
 use Rattle.refusals.specs.Refusals.{cutAnswer, deliverAnswer, runAnswer}

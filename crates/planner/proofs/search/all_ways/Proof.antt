@@ -1,4 +1,4 @@
--- `search::all_ways` meets its contract. The loop's invariant: the rows have the ways of the links before k, which the two stores of a turn open for link k.
+-- `searches::all_ways` meets its contract. The loop's invariant: the rows have the ways of the links before k, which the two stores of a turn open for link k.
 use Prim.Native.Nat.{ℕ, _+_, _-_, _%_, _≤_, _<_}
 use mathlib.Core.Path.{_≡_, refl}
 use mathlib.Core.Logic.{_⊎_, inl, inr, ⊎-elim, Iff·symm, Iff·trans}

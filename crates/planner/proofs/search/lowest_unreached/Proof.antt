@@ -1,4 +1,4 @@
--- `search::lowest_unreached` meets its contract: the search from node 0 finds just the nodes that node 0 reaches, and the loop stops at the lowest
+-- `searches::lowest_unreached` meets its contract: the search from node 0 finds just the nodes that node 0 reaches, and the loop stops at the lowest
 -- that is not among them.
 use Prim.Native.Nat.{ℕ, _-_, _%_, _≤_, _<_}
 use mathlib.Core.Path.{_≡_, sym, _∙_, ap}

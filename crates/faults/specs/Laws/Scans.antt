@@ -1,0 +1,100 @@
+-- Loops that keep whether some entry failed a test so far, and what they say of the entries of a plan or a session. Serves the proofs of `entries`.
+-- Assumes nothing.
+use Prim.Native.Nat.{ℕ, _+_, _<_, _≤_, max, min}
+use mathlib.Core.Path.{_≡_, refl, sym}
+use mathlib.Core.Logic.{_⊎_, inl, inr, ⊎-elim}
+use mathlib.Core.Bool.{Bool, true, false, cond, not, _&&_, _||_, or-false, or-true}
+use mathlib.Core.List.{List}
+use native.Mathlib.Omega.{arith}
+use native.Mathlib.Decide.{ℕ-discrete, decLt}
+use lib.Bits.{bitOr}
+use lib.Dec.{eqb, ltb, leb}
+use borrow.Author.Tests.{eq-eqb, ne-eqb, lt-ltb, le-ltb, lt-leb, le-leb}
+use Rattle.scan.specs.Test.{Says, lt-says, or-says, says-same}
+use Rattle.scan.specs.Bits.{or-zero}
+use Rattle.scan.specs.Entry.{at}
+use Rattle.scan.specs.Lowest.{any, any-says, any-same, any-none, any-turn, any-block}
+use Rattle.faults.specs.Faults.{isOver, overflows, isLeftover}
+
+-- ---- a loop from n on and below `limit`, over what is not below n and passes q
+
+module _ (n limit : ℕ) (q : ℕ → Bool) where
+  abbrev past : ℕ → Bool
+  past i = leb n i && q i
+
+  -- before the loop
+  pub past-none : false ≡ any past (min n limit)
+  past-none = sym (any-none past (min n limit) n (λ j h. rw (lt-leb n j h)) (omega arith))
+
+  module _ (i : ℕ) (bad : Bool) (e : bad ≡ any past (min i limit)) where
+    -- one turn
+    pub past-turn : n ≤ i → i < limit → (bad || q i) ≡ any past (min (i + 1) limit)
+    past-turn h l =
+        let now : min i limit ≡ i = omega arith in
+        let next : min (i + 1) limit ≡ i + 1 = omega arith in
+        rw next (any-turn past i bad (q i) _ (rw now at e) (rw (le-leb n i h)) refl)
+
+    -- one block of b, which begins before i where fewer are left
+    pub past-block : (from b next : ℕ) → n ≤ from → from ≤ i → i ≤ from + b → from + b ≡ min next limit
+        → (bad || any (λ j. q (from + j)) b) ≡ any past (min next limit)
+    past-block from b next h g l z =
+        let onward = any-same (λ j. q (from + j)) (λ j. past (from + j)) b (λ j k. rw (le-leb n (from + j) (omega arith))) in
+        rw (e, onward, ← z) (any-block past (min i limit) from b (omega arith) (omega arith))
+
+    -- after it
+    pub past-all : limit ≤ i → bad ≡ any past limit
+    past-all h = let all : min i limit ≡ limit = omega arith in rw all at e
+
+  -- a block that has one
+  pub past-found : (from b : ℕ) → n ≤ from → from + b ≤ limit → true ≡ any (λ j. q (from + j)) b → true ≡ any past limit
+  past-found from b h l e =
+      let (j, k, t) = any-says (λ j. q (from + j)) b .0 (sym e) in
+      sym (any-says past limit .1 (from + j, omega arith, rw (le-leb n (from + j) (omega arith)) t))
+
+not-and : (a b : Bool) → not (a && b) ≡ (not a || not b)
+not-and true b = refl
+not-and false b = refl
+
+-- bits gathered from two numbers are not all zero just where one of the numbers is not zero
+pub or-nonzero : (x y : ℕ) → not (eqb (bitOr x y) 0) ≡ (not (eqb x 0) || not (eqb y 0))
+or-nonzero x y = rw (or-zero x y) (not-and (eqb x 0) (eqb y 0))
+
+-- a number is below the larger of two just where it is below one of them
+pub below-larger : (b v w : ℕ) → ltb b (max v w) ≡ (ltb b v || ltb b w)
+below-larger b v w = says-same (lt-says b (max v w)) (
+  λ t. ⊎-elim (λ h. omega arith) (λ h. omega arith) (either .0 t),
+  λ h. either .1 (elim (decLt b v) [ yes l ↦ inl l | no l ↦ inr (omega arith) ]),
+)
+  where
+    either : Says (ltb b v || ltb b w) ((b < v) ⊎ (b < w))
+    either = or-says (lt-says b v) (lt-says b w)
+
+-- ---- the entries of a plan or a session
+
+module _ (links top : ℕ) (entries : List ℕ) where
+  abbrev above : ℕ → Bool
+  above i = ltb top (at entries i)
+
+  -- an entry is wrong exactly where it is above the top or left over
+  over-parts : (i : ℕ) → isOver links top i (at entries i) ≡ (above i || isLeftover links entries i)
+  unfolding isOver
+  over-parts i = go (decLt i links) (ℕ-discrete (at entries i) 0)
+    where
+      go : Dec (i < links) → Dec (at entries i ≡ 0) → ltb (cond (ltb i links) top 0) (at entries i) ≡ (above i || isLeftover links entries i)
+      go (yes l) d = rw (lt-ltb i links l, lt-leb links i l) (sym (or-false (above i)))
+      go (no l) (yes z) = rw (le-ltb i links (omega arith), le-leb links i (omega arith), le-ltb 0 (at entries i) (omega arith), eq-eqb (at entries i) 0 z, le-ltb top (at entries i) (omega arith))
+      go (no l) (no n) = rw (le-ltb i links (omega arith), le-leb links i (omega arith), lt-ltb 0 (at entries i) (omega arith), ne-eqb (at entries i) 0 n) (sym (or-true (above i)))
+
+  -- so one is exactly where one is above the top or one left over
+  pub overflows-parts : (any above 256 || any (isLeftover links entries) 256) ≡ overflows links top entries
+  unfolding overflows
+  overflows-parts = says-same (or-says (any-says above 256) (any-says (isLeftover links entries) 256)) (
+    λ t. let (i, l, e) = any-says over 256 .0 t in ⊎-elim (λ p. inl (i, l, p)) (λ p. inr (i, l, p)) (parts i .0 e),
+    λ w. any-says over 256 .1 (⊎-elim (λ (i, l, p). (i, l, parts i .1 (inl p))) (λ (i, l, p). (i, l, parts i .1 (inr p))) w),
+  )
+    where
+      over : ℕ → Bool
+      over i = isOver links top i (at entries i)
+
+      parts : (i : ℕ) → Says (over i) ((above i ≡ true) ⊎ (isLeftover links entries i ≡ true))
+      parts i = rw (over-parts i) (or-says (λ e. e, λ e. e) (λ e. e, λ e. e))
