@@ -3,6 +3,8 @@ use crate::Link;
 use crate::Mesh;
 use ends::lower;
 ghost use mathlib.Core.Path.{_≡_};
+ghost use mathlib.Core.Bool.{_||_};
+ghost use Prim.Native.Nat.{_%_};
 ghost use lib.Dec.{eqb};
 ghost use Rattle.mesh.specs.Mesh.{isZero};
 ghost use Rattle.mesh.specs.WellFormed.{InRange};
@@ -22,9 +24,20 @@ fn bits_of(l: Link) -> u64
     l.low as u64 | 256 * (l.high as u64) | 65536 * (l.length as u64) | 4294967296 * (l.pair as u64)
 }
 
+// The same where i is odd, else 0.
+fn bits_where_odd(i: usize, l: Link) -> u64
+    ensures { λ r. ⌜ eqb r 0 ≡ (eqb (i % 2) 0 || isZero l) ⌝ }
+{
+    if i % 2 == 0 {
+        return 0;
+    }
+    bits_of(l)
+}
+
 // Takes a mesh apart: stores the ends of each link as one number, and says whether each entry past the last link is zero. The entries of
 // `ends` past the last link stay. Both loops stand here, since a mesh is copied for each function that takes it; the second has no branch, so
-// that the compiler tests several entries at once.
+// that the compiler tests several entries at once, and starts at an even one: two entries, 16 bytes, are then read where one store has just
+// put them, and not half from one store and half from the next, for which a processor has to wait.
 pub fn split(m: Mesh, ends: &mut [u16; 256]) -> bool
     ensures rest { λ r. ⌜ r ≡ restZero m ⌝ }
     ensures ends { λ _. ⌜ now (ends .exit) ≡ endsInto m (now (ends .entry)) ⌝ }
@@ -37,7 +50,9 @@ pub fn split(m: Mesh, ends: &mut [u16; 256]) -> bool
         ends[i] = ends_of(l);
         i += 1;
     }
-    let mut bits: u64 = 0;
+    let next = m.links[lower(i, 255)];
+    let mut bits = bits_where_odd(i, next);
+    i += i % 2;
     while i < 256 {
         let l = m.links[i];
         bits = bits | bits_of(l);

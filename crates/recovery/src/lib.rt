@@ -119,19 +119,18 @@ impl Session {
         let mesh = self.mesh;
         let plan = self.plan;
         let before = self.cut;
-        let f = self.flood;
-        let mut states = f.states;
-        let mut reached = f.reached;
+        let mut flood = self.flood;
+        let mut reached = flood.reached;
         let answer = changes::cut(
             mesh,
             &plan.directions,
             before,
-            &mut states,
+            &mut flood.states,
             &mut reached,
             link,
         );
         let cut = cut_after(answer, before, Cut::Link(link));
-        let flood = Flood { states, reached };
+        flood.reached = reached;
         let session = Session {
             mesh,
             plan,
@@ -148,12 +147,18 @@ impl Session {
         let mesh = self.mesh;
         let plan = self.plan;
         let cut = self.cut;
-        let f = self.flood;
-        let mut states = f.states;
-        let mut reached = f.reached;
-        let moved = changes::deliver(mesh, &plan.directions, cut, &mut states, &mut reached, link);
+        let mut flood = self.flood;
+        let mut reached = flood.reached;
+        let moved = changes::deliver(
+            mesh,
+            &plan.directions,
+            cut,
+            &mut flood.states,
+            &mut reached,
+            link,
+        );
         let answer = delivery_answer(moved);
-        let flood = Flood { states, reached };
+        flood.reached = reached;
         self.flood = flood;
         let session = self;
         Delivery { session, answer }
@@ -166,19 +171,18 @@ impl Session {
         let mesh = self.mesh;
         let plan = self.plan;
         let cut = self.cut;
-        let f = self.flood;
-        let mut states = f.states;
-        let mut reached = f.reached;
+        let mut flood = self.flood;
+        let mut reached = flood.reached;
         let made = changes::run(
             mesh,
             &plan.directions,
             cut,
-            &mut states,
+            &mut flood.states,
             &mut reached,
             allowance,
         );
         let report = run_report(made);
-        let flood = Flood { states, reached };
+        flood.reached = reached;
         self.flood = flood;
         let session = self;
         Run { session, report }

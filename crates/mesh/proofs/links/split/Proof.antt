@@ -13,7 +13,7 @@ use Rattle.scan.specs.Fill.{filled}
 use Rattle.mesh.specs.Mesh.{allZero}
 use Rattle.mesh.specs.WellFormed.{link}
 use Rattle.mesh.specs.Parts.{endsOf}
-use Rattle.mesh.specs.Laws.Links.{zero-next, zero-end}
+use Rattle.mesh.specs.Laws.Links.{zero-next, zero-even, zero-end}
 use Rattle.scan.specs.Part.{drop-min}
 use Rattle.mesh.proofs.Ranges.{entries-are, in-range}
 use Rattle.mesh.proofs.links.split.Statement.{statement}
@@ -68,12 +68,32 @@ loop-again c =
     let lo = l .loop in
     (omega arith, sweep-turn _ (a .ends .now) (lo .ends) (lo .i) (lo .inv .1) _ (c .ends-of .ensures))
 
+lower-requires-2 : tie.Need-lower-requires-2 Inv-loop μ-loop Inv-loop2 μ-loop2
+lower-requires-2 c κs = search needs
+
+mul-next : tie.Need-mul-next Inv-loop μ-loop Inv-loop2 μ-loop2
+mul-next c = search needs
+
+element-copy-out-next : tie.Need-element-copy-out-next Inv-loop μ-loop Inv-loop2 μ-loop2
+element-copy-out-next c = search needs
+
+bits-where-odd-requires : tie.Need-bits-where-odd-requires Inv-loop μ-loop Inv-loop2 μ-loop2
+bits-where-odd-requires c κs = search needs
+
+add-i-2 : tie.Need-add-i-2 Inv-loop μ-loop Inv-loop2 μ-loop2
+add-i-2 c = search needs
+
 loop2-holds : tie.Need-loop2-holds Inv-loop μ-loop Inv-loop2 μ-loop2
 loop2-holds c =
-    let s = c .before .before in
+    let n = c .before .before in
+    let l = n .before .before in
+    let s = l .before in
     let a = s .before .args .t1 in
-    let sized = entries-are a _ (s .before .good .0) in
-    (omega arith, ap allZero (drop-min (a .links) (a .count) (c .before .loop .i) (omega arith)))
+    let sized = entries-are a _ (s .before .good .0) in (
+      omega arith,
+      ap allZero (drop-min (a .links) (a .count) (l .loop .i) (omega arith))
+          ∙ zero-even (a .links) (l .loop .i) (n .lower2 .result) (eqb (c .bits-where-odd .result) 0) sized (omega arith) (n .lower2 .ensures) (c .bits-where-odd .ensures),
+    )
 
 mul-l-2 : tie.Need-mul-l-2 Inv-loop μ-loop Inv-loop2 μ-loop2
 mul-l-2 c = search needs
@@ -84,8 +104,8 @@ element-copy-out-l-2 c = search needs
 bits-of-requires : tie.Need-bits-of-requires Inv-loop μ-loop Inv-loop2 μ-loop2
 bits-of-requires c κs = search needs
 
-add-i-2 : tie.Need-add-i-2 Inv-loop μ-loop Inv-loop2 μ-loop2
-add-i-2 c = search needs
+add-i-3 : tie.Need-add-i-3 Inv-loop μ-loop Inv-loop2 μ-loop2
+add-i-3 c = search needs
 
 loop2-less : tie.Need-loop2-less Inv-loop μ-loop Inv-loop2 μ-loop2
 loop2-less c = search needs
@@ -93,7 +113,7 @@ loop2-less c = search needs
 loop2-again : tie.Need-loop2-again Inv-loop μ-loop Inv-loop2 μ-loop2
 loop2-again c =
     let l = c .before .before .before in
-    let start = l .before .before .before .before in
+    let start = l .before .before .before .before .before .before .before in
     let a = start .args .t1 in
     let lo = l .loop2 in
     let sized = entries-are a _ (start .good .0) in
@@ -102,7 +122,7 @@ loop2-again c =
 returns : tie.Need-returns Inv-loop μ-loop Inv-loop2 μ-loop2
 returns c =
     let l = c .before in
-    let first = l .before .before in
+    let first = l .before .before .before .before .before in
     let start = first .before .before in
     let a = start .args in
     let sized = entries-are (a .t1) _ (start .good .0) in
@@ -130,11 +150,16 @@ split-spec =
     add-i
     loop-less
     loop-again
+    lower-requires-2
+    mul-next
+    element-copy-out-next
+    bits-where-odd-requires
+    add-i-2
     loop2-holds
     mul-l-2
     element-copy-out-l-2
     bits-of-requires
-    add-i-2
+    add-i-3
     loop2-less
     loop2-again
     returns)

@@ -21,7 +21,7 @@ returns : tie.Need-returns
 unfolding afterCut
 returns c =
     let d = c .before in
-    let a = d .before .before .before .before .before .before .before .before .before .before .args in
+    let a = d .before .before .before .before .before .before .before .before .before .args in
     let s = a .self in
     let g = digraph s in
     let r = d .cut .result in
