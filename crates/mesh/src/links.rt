@@ -36,8 +36,8 @@ fn bits_where_odd(i: usize, l: Link) -> u64
 
 // Takes a mesh apart: stores the ends of each link as one number, and says whether each entry past the last link is zero. The entries of
 // `ends` past the last link stay. Both loops stand here, since a mesh is copied for each function that takes it; the second has no branch, so
-// that the compiler tests several entries at once, and starts at an even one: two entries, 16 bytes, are then read where one store has just
-// put them, and not half from one store and half from the next, for which a processor has to wait.
+// that the compiler tests several entries at once, and starts at an even one, so that two entries that are read at once, 16 bytes, do not lie
+// across two blocks of 16 of the copy.
 pub fn split(m: Mesh, ends: &mut [u16; 256]) -> bool
     ensures rest { λ r. ⌜ r ≡ restZero m ⌝ }
     ensures ends { λ _. ⌜ now (ends .exit) ≡ endsInto m (now (ends .entry)) ⌝ }
