@@ -223,7 +223,7 @@ mod tests {
         };
         let cases = [listed(&[1, 3, 3, 0, 0, 2, 2, 1, 1]), listed(&[1, 2, 0])];
         let expected = "listing 0\nmesh 3 3\nlink 0 0 1 0\nlink 1 0 2 1\nlink 2 1 2 0\n\
-            cut 0 0 1 2 1 2\ncut 1 2 0 2 2 0\ncut 2 1 2 2 0 1\nlisting 1\nrefused 1 3\n";
+            cut 0 0 1 2 - 1 2\ncut 1 2 0 2 - 2 0\ncut 2 1 2 2 - 0 1\nlisting 1\nrefused 1 3\n";
         assert_eq!(listing(&cases).unwrap(), expected);
     }
 }

@@ -30,6 +30,11 @@ impl Link {
         (self.low.into(), self.high.into())
     }
 
+    /// The length; none where the link is not measured.
+    pub fn metres(&self) -> Option<u32> {
+        (self.length > 0).then_some(self.length.into())
+    }
+
     /// All fields in one number, as they stand in memory.
     fn bits(&self) -> u64 {
         let ends = u64::from(self.low) | u64::from(self.high) << 8;

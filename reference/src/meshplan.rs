@@ -44,13 +44,15 @@ fn add_links(mesh: &Mesh, plan: &Plan, text: &mut String) {
     }
 }
 
-/// The link, x, y, the deliveries of an unhindered run, and the route.
+/// The link, x, y, the deliveries of an unhindered run, the length of the route
+/// and its links.
 fn add_cut(fresh: &Session, link: u16, text: &mut String) -> Result<(), Refusal> {
     let mut session = fresh.clone();
     session.cut(link)?;
     let made = session.run(u32::MAX)?.made;
     let (x, y) = session.primary_arc(link);
-    add(text, format_args!("cut {link} {x} {y} {made}"));
+    let length = session.status(link)?.route;
+    add(text, format_args!("cut {link} {x} {y} {made} {length}"));
     for link in session.route()? {
         add(text, format_args!(" {link}"));
     }
@@ -69,8 +71,17 @@ mod tests {
     #[test]
     fn lists_p1() {
         let expected = "mesh 3 3\nlink 0 0 1 0\nlink 1 0 2 1\nlink 2 1 2 0\n\
-            cut 0 0 1 2 1 2\ncut 1 2 0 2 2 0\ncut 2 1 2 2 0 1\n";
+            cut 0 0 1 2 - 1 2\ncut 1 2 0 2 - 2 0\ncut 2 1 2 2 - 0 1\n";
         assert_eq!(listing(&[1, 3, 3, 0, 0, 2, 2, 1, 1]), expected);
+    }
+
+    #[test]
+    fn a_link_without_a_length_counts_only_on_the_route() {
+        // Links 0 and 1 have 300 and 65,535 metres, link 2 is not measured.
+        let book = [1, 3, 3, 0, 4, 0x2c, 1, 6, 2, 255, 255, 1, 1];
+        let expected = "mesh 3 3\nlink 0 0 1 0\nlink 1 0 2 1\nlink 2 1 2 0\n\
+            cut 0 0 1 2 - 1 2\ncut 1 2 0 2 - 2 0\ncut 2 1 2 2 65835 0 1\n";
+        assert_eq!(listing(&book), expected);
     }
 
     #[test]

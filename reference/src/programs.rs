@@ -92,7 +92,7 @@ mod tests {
             Call::Status(2),
         ];
         let expected = "start accepted\ncut 0 accepted\nrun 9 made 2 rest\nroute accepted 1 2\n\
-            mend 1 refused 26 1\nstatus 2 state 2 busy 0 route 2\n\
+            mend 1 refused 26 1\nstatus 2 state 2 busy 0 route -\n\
             cut-is 0\nstates 022\nreached 0 1 2\n";
         assert_eq!(answers(&TRIANGLE, &made), expected);
         let begun = "start accepted\ncut none\nstates 000\nreached\n";

@@ -2,12 +2,15 @@
 //! the session.
 
 mod flood;
+mod length;
 mod route;
 
 use crate::mesh::{Mesh, MOST_LINKS, MOST_NODES};
 use crate::plan::Plan;
 use crate::refusal::{refuse_if, Answer, Reason, Refusal};
 use flood::Flood;
+
+pub use length::RouteLength;
 
 pub const QUIET: u8 = 0;
 pub const OFFERED: u8 = 1;
@@ -39,12 +42,13 @@ pub struct Run {
     pub at_rest: bool,
 }
 
-/// A link's state, how many links are under way, and the route length.
+/// A link's state, how many links are under way, and the route length: that of
+/// the taken links at rest under a cut, and otherwise 0.
 #[derive(Clone, Copy, Debug, PartialEq, Eq)]
 pub struct Status {
     pub state: u8,
     pub busy: usize,
-    pub route: usize,
+    pub route: RouteLength,
 }
 
 /// Whether a link in this state is under way.
@@ -137,11 +141,14 @@ impl Session {
         let under_way = self.states.iter().filter(|state| is_under_way(**state));
         let busy = under_way.count();
         let has_route = self.cut.is_some() && busy == 0;
-        let taken = self.states.iter().filter(|state| **state == TAKEN);
         Ok(Status {
             state: self.states[usize::from(link)],
             busy,
-            route: if has_route { taken.count() } else { 0 },
+            route: if has_route {
+                self.taken_length()
+            } else {
+                RouteLength::Metres(0)
+            },
         })
     }
 

@@ -58,7 +58,7 @@ fn ill_formed_input_is_an_error() {
 #[test]
 fn meshplan_reads_all_of_its_input() {
     let expected = "mesh 3 3\nlink 0 0 1 0\nlink 1 0 2 1\nlink 2 1 2 0\n\
-        cut 0 0 1 2 1 2\ncut 1 2 0 2 2 0\ncut 2 1 2 2 0 1\n";
+        cut 0 0 1 2 - 1 2\ncut 1 2 0 2 - 2 0\ncut 2 1 2 2 - 0 1\n";
     let printed = |book: &[u8]| String::from_utf8(run(&["meshplan"], book).stdout).unwrap();
     assert_eq!(printed(&P1), expected);
     let long = [&P1[..], &[7; 1_000_000]].concat();

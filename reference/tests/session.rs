@@ -8,7 +8,7 @@ use reference::mesh::Mesh;
 use reference::plan::{plan, Plan};
 use reference::random::Random;
 use reference::refusal::{Answer, Reason, Refusal};
-use reference::session::{is_under_way, start, Delivery, Run, Session, Status, TAKEN};
+use reference::session::{is_under_way, start, Delivery, RouteLength, Run, Session, Status, TAKEN};
 
 const P1: [u8; 9] = [1, 3, 3, 0, 0, 2, 2, 1, 1];
 const P5: [u8; 13] = [1, 4, 5, 0, 0, 2, 2, 2, 3, 1, 1, 1, 2];
@@ -87,7 +87,7 @@ fn p7_another_order() {
     let status = Status {
         state: TAKEN,
         busy: 0,
-        route: 3,
+        route: RouteLength::NotKnown,
     };
     assert_eq!(session.status(2), Ok(status));
 }
@@ -167,7 +167,7 @@ fn the_route_of_a_circle_of_taken_links_ends_after_as_many_links_as_there_are() 
     session.states[..4].fill(TAKEN);
     assert_eq!(session.route(), Ok(vec![1, 3, 2, 0]));
     let status = session.status(0).unwrap();
-    assert_eq!((status.busy, status.route), (0, 4));
+    assert_eq!((status.busy, status.route), (0, RouteLength::NotKnown));
 }
 
 /// All taken links stand in a row from x to y, and no node is met twice.
@@ -182,9 +182,24 @@ fn assert_route(session: &Session, cut: u16) {
         met.push(end);
     }
     assert_eq!(met.last(), Some(&y));
+    assert_eq!(
+        session.status(cut).unwrap().route,
+        length_of(session, &route)
+    );
     route.sort_unstable();
     assert_eq!(taken(session), route);
-    assert_eq!(session.status(cut).unwrap().route, route.len());
+}
+
+/// The lengths of these links together, as 02 says it.
+fn length_of(session: &Session, links: &[u16]) -> RouteLength {
+    let mut metres = 0;
+    for link in links {
+        match session.mesh.links[usize::from(*link)].length {
+            0 => return RouteLength::NotKnown,
+            length => metres += u32::from(length),
+        }
+    }
+    RouteLength::Metres(metres)
 }
 
 #[test]

@@ -166,7 +166,7 @@ mod tests {
         let before = "script 0\nstart accepted\n";
         let lines = "status 0 state 0 busy 0 route 0\ncut 0 accepted\n\
             cut 1 refused 22 1\ndeliver 1 taken 2\nroute accepted\nrun 0 made 0 moving\n\
-            deliver 2 taken 1\nrun 0 made 0 rest\nstatus 2 state 2 busy 0 route 2\n\
+            deliver 2 taken 1\nrun 0 made 0 rest\nstatus 2 state 2 busy 0 route -\n\
             route accepted 1 2\nmend 3 refused 12 3\n";
         let session = state("cut-is 0", "022", "reached 0 1 2");
         let expected = both(before, lines, &session, of_triangle(&[0, 1, 0]));
