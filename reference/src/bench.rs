@@ -21,6 +21,7 @@ pub const RUN: u8 = b'R';
 pub const CUT: u8 = b'C';
 pub const DELIVER: u8 = b'L';
 pub const STATUS: u8 = b'U';
+pub const STATUS_AT_REST: u8 = b'V';
 
 /// A planner: gives the plan of a mesh.
 type Planner = fn(&Mesh) -> (Plan, Answer);
@@ -59,6 +60,7 @@ fn repeat(job: u8, repeats: u32, book: &[u8], mesh: Mesh) -> Result<String, Stri
         CUT => Ok(sessions::cut_line(repeats, &mesh)),
         DELIVER => Ok(sessions::delivery_line(repeats, &mesh)),
         STATUS => Ok(sessions::status_line(repeats, &mesh)),
+        STATUS_AT_REST => Ok(sessions::status_at_rest_line(repeats, &mesh)),
         _ => Err(format!("unknown job {job}")),
     }
 }

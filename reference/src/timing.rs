@@ -7,7 +7,8 @@ pub mod program;
 
 use std::io::{self, Write};
 
-use crate::bench::{CUT, DECODE, DELIVER, ENCODE, PLAN, PLAN_IN_TWO_PASSES, RUN, STATUS};
+use crate::bench::{CUT, DECODE, DELIVER, ENCODE, PLAN, PLAN_IN_TWO_PASSES, RUN};
+use crate::bench::{STATUS, STATUS_AT_REST};
 use crate::book::bytes_of;
 use contest::{contest, whole};
 use counter::Counter;
@@ -15,7 +16,7 @@ use meshes::{subjects, Subject};
 use program::Program;
 
 /// The name of each row, and the jobs of the measured programs and of the bench.
-const ROWS: [(&str, [u8; 2]); 8] = [
+const ROWS: [(&str, [u8; 2]); 9] = [
     ("decode", [DECODE; 2]),
     ("encode", [ENCODE; 2]),
     ("plan", [PLAN; 2]),
@@ -24,6 +25,7 @@ const ROWS: [(&str, [u8; 2]); 8] = [
     ("cut by value", [CUT; 2]),
     ("delivery by value", [DELIVER; 2]),
     ("status", [STATUS; 2]),
+    ("status at rest", [STATUS_AT_REST; 2]),
 ];
 
 /// Writes a Markdown table, a row for each job and mesh as it is measured:

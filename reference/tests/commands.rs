@@ -26,7 +26,22 @@ fn bench_prints_the_last_result() {
         assert_prints(b'R', repeats, &P5, "R 6\n");
         assert_prints(b'L', repeats, &P5, "L taken 0\n");
         assert_prints(b'U', repeats, &P5, "U 0 2 0\n");
+        assert_prints(b'V', repeats, &P5, "V 0 0 -\n");
     }
+}
+
+#[test]
+fn bench_prints_the_route_length_of_the_last_repeat() {
+    // The route after the cut of link 2 has links 0 and 1, of 10 and 20 metres.
+    // Link 0 has 1 metre in every other repeat.
+    let book = [1, 3, 3, 0, 4, 10, 0, 6, 2, 20, 0, 1, 1];
+    for (repeats, expected) in [(1, "V 0 0 30\n"), (2, "V 0 0 21\n"), (701, "V 0 0 30\n")] {
+        assert_prints(b'V', repeats, &book, expected);
+    }
+    // Link 0 is measured in every other repeat only.
+    let book = [1, 3, 3, 0, 0, 6, 2, 20, 0, 1, 1];
+    assert_prints(b'V', 3, &book, "V 0 0 -\n");
+    assert_prints(b'V', 4, &book, "V 0 0 21\n");
 }
 
 #[test]
@@ -37,8 +52,9 @@ fn bench_prints_refusals() {
     assert_prints(b'R', 3, &[1, 2, 0, 0], "R refused 20 1\n");
     assert_prints(b'L', 3, &[1, 2, 1, 0, 0], "L refused 21 0\n");
     assert_prints(b'U', 3, &[1, 2, 1, 0, 0], "U refused 21 0\n");
+    assert_prints(b'V', 3, &[1, 2, 1, 0, 0], "V refused 21 0\n");
     assert_prints(b'E', 3, &[1, 2, 0, 0], "E 4\n");
-    for job in *b"DEPTRLU" {
+    for job in *b"DEPTRLUV" {
         assert_prints(job, 3, &[1, 2, 0], "refused 1 3\n");
     }
 }

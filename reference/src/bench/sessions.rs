@@ -1,5 +1,5 @@
 //! The jobs on a session of a planned mesh: a cut of the last link on a fresh
-//! one, the others just after that cut.
+//! one, a status at rest after that cut, the others just after it.
 
 use std::hint::black_box;
 
@@ -8,7 +8,7 @@ use crate::listing::scripts::delivery;
 use crate::mesh::Mesh;
 use crate::plan::plan;
 use crate::refusal::{in_words, Refusal};
-use crate::session::{is_under_way, start, Delivery, Session};
+use crate::session::{is_under_way, start, Delivery, Session, Status};
 
 /// A run to rest; the session is copied for each.
 pub fn run_line(repeats: u32, mesh: &Mesh) -> String {
@@ -55,7 +55,16 @@ pub fn delivery_line(repeats: u32, mesh: &Mesh) -> String {
 
 /// One status, of the last link.
 pub fn status_line(repeats: u32, mesh: &Mesh) -> String {
-    let status = Subject::new(mesh).and_then(|subject| {
+    last_status("U", repeats, Subject::new(mesh))
+}
+
+/// One status, of the last link, at rest.
+pub fn status_at_rest_line(repeats: u32, mesh: &Mesh) -> String {
+    last_status("V", repeats, Subject::at_rest(mesh))
+}
+
+fn last_status(job: &str, repeats: u32, subject: Result<Subject, Refusal>) -> String {
+    let status = subject.and_then(|subject| {
         let last = subject.last;
         let mut status = subject.sessions[0].status(last);
         for number in 1..repeats {
@@ -65,13 +74,14 @@ pub fn status_line(repeats: u32, mesh: &Mesh) -> String {
         status
     });
     match status {
-        Ok(status) => format!("U {} {} {}", status.state, status.busy, status.route),
-        Err(refusal) => refused("U", refusal),
+        Ok(Status { state, busy, route }) => format!("{job} {state} {busy} {route}"),
+        Err(refusal) => refused(job, refusal),
     }
 }
 
 /// What a job is repeated on: two sessions that differ in the length of
-/// link 0, taken by turns, each fresh or just after a cut of the last link.
+/// link 0, taken by turns, each fresh, just after a cut of the last link or at
+/// rest under it.
 struct Subject {
     sessions: [Session; 2],
     last: u16,
@@ -83,6 +93,15 @@ impl Subject {
         let mut subject = Subject::uncut(mesh)?;
         for session in &mut subject.sessions {
             session.cut(subject.last)?;
+        }
+        Ok(subject)
+    }
+
+    /// Sessions at rest after an unhindered run under that cut.
+    fn at_rest(mesh: &Mesh) -> Result<Subject, Refusal> {
+        let mut subject = Subject::new(mesh)?;
+        for session in &mut subject.sessions {
+            session.run(u32::MAX)?;
         }
         Ok(subject)
     }
