@@ -12,8 +12,11 @@ pub const PAIRS: [u32; 7] = [1, 255, 256, 65_535, 65_536, 1 << 24, u32::MAX];
 pub enum Fill {
     None,
     Some,
+    Most,
     All,
 }
+
+pub const FILLS: [Fill; 4] = [Fill::None, Fill::Some, Fill::Most, Fill::All];
 
 /// The mesh with these links and random lengths and fibre pairs.
 pub fn filled(nodes: u8, shape: &[(u8, u8)], fill: Fill, random: &mut Random) -> Mesh {
@@ -35,9 +38,38 @@ pub fn filled(nodes: u8, shape: &[(u8, u8)], fill: Fill, random: &mut Random) ->
     Mesh::new(nodes, &links)
 }
 
+/// The mesh with these links, and lengths and fibre pairs on none, some, most
+/// or all of them.
+pub fn partly_filled(nodes: u8, shape: &[(u8, u8)], random: &mut Random) -> Mesh {
+    let fill = random.pick(&FILLS);
+    filled(nodes, shape, fill, random)
+}
+
 /// The mesh with these links, without lengths and fibre pairs.
 pub fn plain(nodes: u8, shape: &[(u8, u8)]) -> Mesh {
     filled(nodes, shape, Fill::None, &mut Random::new(0))
+}
+
+/// The mesh with other lengths: that of each link by its number.
+pub fn with_lengths(mesh: &Mesh, mut length: impl FnMut(usize) -> u16) -> Mesh {
+    let mut mesh = mesh.clone();
+    for link in 0..mesh.counted().len() {
+        mesh.links[link].length = length(link);
+    }
+    mesh
+}
+
+/// The mesh, of at most 16 links, with the lengths 1, 2, 4 and so on: each sum
+/// tells its links.
+pub fn with_powers_of_two(mesh: &Mesh) -> Mesh {
+    with_lengths(mesh, |link| 1 << link)
+}
+
+/// The mesh with one link not measured.
+pub fn with_unmeasured(mesh: &Mesh, link: usize) -> Mesh {
+    let mut mesh = mesh.clone();
+    mesh.links[link].length = 0;
+    mesh
 }
 
 /// A mesh with at most `count` random links.
@@ -72,11 +104,12 @@ fn stands(fill: Fill, random: &mut Random) -> bool {
     match fill {
         Fill::None => false,
         Fill::Some => random.below(2) == 0,
+        Fill::Most => random.below(8) > 0,
         Fill::All => true,
     }
 }
 
-fn length(random: &mut Random) -> u16 {
+pub fn length(random: &mut Random) -> u16 {
     match random.below(2) {
         0 => random.pick(&LENGTHS),
         _ => random.between(1, 65_535) as u16,

@@ -1,7 +1,7 @@
 //! The meshes that scripts are played on.
 
 use super::super::graphs::{joined, renumbered, side_by_side, Graph};
-use super::super::meshes::{filled, plain, Fill};
+use super::super::meshes::{partly_filled, plain};
 use super::super::shapes;
 use crate::mesh::{Mesh, MOST_LINKS, MOST_NODES};
 use crate::random::Random;
@@ -46,8 +46,8 @@ pub fn small(random: &mut Random) -> Mesh {
     match random.below(8) {
         0 => triangle(),
         1 => p5(),
-        2 => plain(4, &shapes::complete(4)),
-        3 => plain(5, &shapes::complete(5)),
+        2 => partly_filled(4, &shapes::complete(4), random),
+        3 => partly_filled(5, &shapes::complete(5), random),
         _ => eared(4, 7, 4, random),
     }
 }
@@ -85,7 +85,7 @@ pub fn parted(random: &mut Random) -> Mesh {
         2 => (nodes, shapes::tree(nodes, random)),
         3 => (nodes, shapes::scattered(nodes, nodes.into(), random)),
         4 => (nodes, shapes::star(nodes, nodes - 1)),
-        _ => return plain(nodes, &[(0, 1)][..random.below(2)]),
+        _ => (nodes, vec![(0, 1); random.below(2)]),
     };
     shuffled(graph, random)
 }
@@ -105,14 +105,12 @@ fn eared(least_nodes: usize, most_nodes: usize, most: usize, random: &mut Random
     let shape = shapes::ears(nodes, random);
     let more = random.below(most + 1);
     let shape = shapes::with_more(nodes, shape, more, random);
-    let (nodes, shape) = renumbered(&(nodes, shape), random);
-    let fill = random.pick(&[Fill::None, Fill::None, Fill::None, Fill::Some]);
-    filled(nodes, &shape, fill, random)
+    shuffled((nodes, shape), random)
 }
 
 fn shuffled(graph: Graph, random: &mut Random) -> Mesh {
     let (nodes, shape) = renumbered(&graph, random);
-    plain(nodes, &shape)
+    partly_filled(nodes, &shape, random)
 }
 
 #[cfg(test)]

@@ -1,5 +1,6 @@
 //! Lists of thousands of calls on one session.
 
+use super::super::meshes::{length, with_lengths, with_powers_of_two, with_unmeasured};
 use super::caller::Caller;
 use super::grounds::{largest, nsfnet, p5, triangle};
 use crate::mesh::Mesh;
@@ -7,11 +8,13 @@ use crate::random::Random;
 use crate::script::{Call, Origin, Script};
 
 pub fn scripts(random: &mut Random) -> Vec<Script> {
+    let some_measured = with_unmeasured(&with_powers_of_two(&p5()), 0);
+    let all_measured = with_lengths(&nsfnet(), |_| length(random));
     let largest = largest(random);
     [
         (triangle(), 5_000),
-        (p5(), 6_000),
-        (nsfnet(), 5_000),
+        (some_measured, 6_000),
+        (all_measured, 5_000),
         (largest, 4_000),
     ]
     .map(|(mesh, calls)| list(&mesh, calls, random))
