@@ -6,9 +6,11 @@ pub mod exercise;
 pub mod faults;
 pub mod grounds;
 pub mod ill_formed;
+pub mod lengths;
 pub mod lists;
 pub mod long_lists;
 pub mod odd;
+pub mod odd_lengths;
 pub mod plans;
 pub mod smallest;
 pub mod sweeps;
@@ -25,6 +27,8 @@ pub fn cases(random: &mut Random) -> Vec<Case> {
     scripts.extend(odd::scripts(random));
     scripts.extend(smallest::scripts(random));
     scripts.extend(sweeps::scripts(random));
+    scripts.extend(lengths::scripts(random));
+    scripts.extend(odd_lengths::scripts(random));
     scripts.extend(long_lists::scripts(random));
     scripts.into_iter().map(Case::Script).collect()
 }
