@@ -103,9 +103,9 @@ fn each_kind_stands_together() {
 #[test]
 fn counts_and_sizes() {
     // Books, mesh records, plannings, scripts, books to list.
-    let fewest = [2_400, 2_000, 3_000, 3_500, 1_100];
-    let most_bytes = [400_000, 250_000, 500_000, 1_000_000, 200_000];
-    let longest_listings = [1_600_000, 600_000, 400_000, 5_500_000, 1_500_000];
+    let fewest = [2_400, 2_000, 3_000, 3_900, 1_300];
+    let most_bytes = [400_000, 250_000, 500_000, 1_100_000, 250_000];
+    let longest_listings = [1_600_000, 600_000, 400_000, 6_000_000, 1_800_000];
     for parts in corpora() {
         for (number, part) in parts.iter().enumerate() {
             assert!(part.cases.len() >= fewest[number]);
@@ -115,7 +115,7 @@ fn counts_and_sizes() {
         let bytes = parts.iter().map(|part| write_cases(&part.cases).len());
         assert!(bytes.sum::<usize>() < 2_000_000);
         let listings = parts.iter().map(|part| part.listing.len());
-        assert!(listings.sum::<usize>() < 9_000_000);
+        assert!(listings.sum::<usize>() < 10_000_000);
     }
 }
 
@@ -214,6 +214,40 @@ fn every_mesh_on_5_nodes_is_planned_and_each_planned_one_is_listed() {
         assert!(cases.len() >= 1_024);
         assert!(accepted.count() >= planned);
         assert!(count_lines(&listings.listing, "mesh 5 ") >= planned);
+    }
+}
+
+/// How many lengths of a route are above 0, and how many are not known.
+fn known_and_not_known<'a>(lengths: impl Iterator<Item = &'a str>) -> (usize, usize) {
+    let (not_known, known): (Vec<&str>, Vec<&str>) = lengths
+        .filter(|length| *length != "0")
+        .partition(|length| *length == "-");
+    (known.len(), not_known.len())
+}
+
+/// The route length in a status line.
+fn of_status(line: &str) -> Option<&str> {
+    match line.split(' ').collect::<Vec<_>>()[..] {
+        ["status", _, "state", _, "busy", _, "route", length] => Some(length),
+        _ => None,
+    }
+}
+
+/// The route length in a cut line of a book to list.
+fn of_cut(line: &str) -> Option<&str> {
+    line.strip_prefix("cut ")?.split(' ').nth(4)
+}
+
+#[test]
+fn route_lengths_are_known_and_not_known() {
+    for [_, _, _, scripts, listings] in corpora() {
+        let lengths = scripts.listing.lines().filter_map(of_status);
+        let (known, not_known) = known_and_not_known(lengths);
+        assert!(known >= 1_000 && not_known >= 1_000, "{known} {not_known}");
+        assert!(scripts.listing.contains(" busy 0 route 16776960\n"));
+        let lengths = listings.listing.lines().filter_map(of_cut);
+        let (known, not_known) = known_and_not_known(lengths);
+        assert!(known >= 3_000 && not_known >= 3_000, "{known} {not_known}");
     }
 }
 
