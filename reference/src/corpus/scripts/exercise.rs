@@ -1,32 +1,110 @@
-//! The scripts of docs/EXERCISE.md, all on the mesh of P5.
+//! The scripts of docs/EXERCISE.md: on the mesh of P5, and on the same links
+//! with lengths.
 
 use super::grounds::p5;
 use crate::book::bytes_of;
+use crate::mesh::Mesh;
 use crate::script::{calls_of, Origin, Script};
 
-/// The calls of each part, as its command names them.
-const PARTS: [&str; 7] = [
-    "status 1 cut 4 status 1",
-    "cut 4 status 3 deliver 1 status 2 deliver 2 status 2 deliver 3 status 0 \
-     deliver 0 status 0 deliver 0 status 3 deliver 3 status 3 route mend 4 status 3",
-    "cut 4 run 2 run 100 route",
-    "cut 4 status 3 deliver 3 status 0 deliver 0 status 2 deliver 2 status 2 \
-     deliver 1 status 1 deliver 1 status 1 route mend 4 status 1",
-    "mend 4 cut 4 cut 1 deliver 4 deliver 2 mend 4 status 1 run 100 deliver 1 \
-     mend 1 mend 4 cut 5",
-    "cut 4 deliver 1 deliver 3 status 0 status 2",
-    "cut 2 status 4 run 100 route",
+const PLAIN: &str = "examples/four-node.book";
+const MEASURED: &str = "examples/four-node-measured.book";
+
+/// The book and the calls of each part, as its command names them.
+const PARTS: [(&str, &str); 10] = [
+    (PLAIN, "status 1 cut 4 status 1"),
+    (
+        PLAIN,
+        "cut 4 status 3 deliver 1 status 2 deliver 2 status 2 deliver 3 status 0 \
+         deliver 0 status 0 deliver 0 status 3 deliver 3 status 3 route mend 4 status 3",
+    ),
+    (PLAIN, "cut 4 run 2 run 100 route"),
+    (
+        PLAIN,
+        "cut 4 status 3 deliver 3 status 0 deliver 0 status 2 deliver 2 status 2 \
+         deliver 1 status 1 deliver 1 status 1 route mend 4 status 1",
+    ),
+    (
+        PLAIN,
+        "mend 4 cut 4 cut 1 deliver 4 deliver 2 mend 4 status 1 run 100 deliver 1 \
+         mend 1 mend 4 cut 5",
+    ),
+    (
+        MEASURED,
+        "cut 4 run 2 status 3 run 100 status 3 route mend 4 status 3",
+    ),
+    (
+        MEASURED,
+        "cut 4 deliver 3 deliver 0 deliver 2 deliver 1 deliver 1 status 3 route",
+    ),
+    (PLAIN, "cut 4 deliver 1 deliver 3 status 0 status 2"),
+    (PLAIN, "cut 2 status 4 run 100 route"),
+    (MEASURED, "cut 3 run 100 status 3 route"),
 ];
 
 pub fn scripts() -> Vec<Script> {
-    PARTS.map(script).into()
+    PARTS.map(|(book, calls)| script(book, calls)).into()
 }
 
-fn script(part: &str) -> Script {
-    let words: Vec<&str> = part.split_whitespace().collect();
+fn script(book: &str, calls: &str) -> Script {
+    let words: Vec<&str> = calls.split_whitespace().collect();
     Script {
-        book: bytes_of(&p5()),
+        book: bytes_of(&mesh(book)),
         origin: Origin::OwnPlan,
         calls: calls_of(&words).expect("a part has only words of calls"),
+    }
+}
+
+fn mesh(book: &str) -> Mesh {
+    match book {
+        MEASURED => measured(),
+        _ => p5(),
+    }
+}
+
+/// P5 with lengths and fibre pairs, link 3 not measured and link 2 without a
+/// pair.
+fn measured() -> Mesh {
+    let mut mesh = p5();
+    let fields = [
+        (420, 1_201),
+        (655, 1_202),
+        (390, 0),
+        (0, 1_204),
+        (580, 1_205),
+    ];
+    for (link, (length, pair)) in mesh.links.iter_mut().zip(fields) {
+        link.length = length;
+        link.pair = pair;
+    }
+    mesh
+}
+
+#[cfg(test)]
+mod tests {
+    use std::fs;
+    use std::path::PathBuf;
+
+    use super::*;
+
+    /// A file of the repository.
+    fn file(name: &str) -> PathBuf {
+        [env!("CARGO_MANIFEST_DIR"), "..", name].iter().collect()
+    }
+
+    #[test]
+    fn the_books_are_those_of_the_examples() {
+        for book in [PLAIN, MEASURED] {
+            assert_eq!(fs::read(file(book)).unwrap(), bytes_of(&mesh(book)));
+        }
+    }
+
+    #[test]
+    fn the_parts_are_the_commands_of_the_page() {
+        let page = fs::read_to_string(file("docs/EXERCISE.md")).unwrap();
+        let commands = page
+            .lines()
+            .filter_map(|line| line.strip_prefix("scripts/calls "));
+        let parts = PARTS.map(|(book, calls)| format!("{book} {calls}"));
+        assert_eq!(commands.collect::<Vec<_>>(), parts);
     }
 }
