@@ -6,8 +6,8 @@ $1 == "mesh" { nodes = $2; links = $3 }
 $1 == "link" { tail[$2] = $5 ? $4 : $3; head[$2] = $5 ? $3 : $4 }
 $1 == "cut" && $2 == cut {
     x = $3; y = $4
-    for (i = 6; i <= NF; i++) on_route[$i] = 1
-    title = "\\nlink " cut " cut (red), at rest after " $5 " deliveries with a route of " (NF - 5) " links (blue, back-up direction)"
+    for (i = 7; i <= NF; i++) on_route[$i] = 1
+    title = "\\nlink " cut " cut (red), at rest after " $5 " deliveries with a route of " (NF - 6) " links, " ($6 == "-" ? "length not known" : $6 " metres") " (blue, back-up direction)"
 }
 END {
     print "digraph \"" name "\" {"
