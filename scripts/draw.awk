@@ -7,7 +7,8 @@ $1 == "link" { tail[$2] = $5 ? $4 : $3; head[$2] = $5 ? $3 : $4 }
 $1 == "cut" && $2 == cut {
     x = $3; y = $4
     for (i = 7; i <= NF; i++) on_route[$i] = 1
-    title = "\\nlink " cut " cut (red), at rest after " $5 " deliveries with a route of " (NF - 6) " links, " ($6 == "-" ? "length not known" : $6 " metres") " (blue, back-up direction)"
+    metres = $6 == "-" ? "length not known" : $6 " metres"
+    title = "\\nlink " cut " cut (red), at rest after " $5 " deliveries with a route of " (NF - 6) " links, " metres " (blue, back-up direction)"
 }
 END {
     print "digraph \"" name "\" {"
