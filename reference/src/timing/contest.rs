@@ -101,6 +101,8 @@ impl<'a> Runner<'a> {
 }
 
 /// The number of repeats, at least 2, that takes about as long as a run should.
+/// It is even: sessions that are taken by turns can give different lines, and
+/// each program has to end with the same one, however often it repeats.
 fn enough_repeats(program: &Program, job: u8, book: &[u8]) -> io::Result<u32> {
     let time_of_one = program.run(&input(job, 1, book))?.time;
     let mut repeats: u32 = 2;
@@ -121,7 +123,7 @@ fn enough_repeats(program: &Program, job: u8, book: &[u8]) -> io::Result<u32> {
 
 fn scaled(repeats: u32, time: Duration) -> u32 {
     let scaled = f64::from(repeats) * AIM.as_secs_f64() / time.as_secs_f64();
-    (scaled as u32).max(2)
+    (scaled as u32).max(2) & !1
 }
 
 #[cfg(test)]
@@ -132,6 +134,13 @@ mod tests {
     fn scales_repeats_to_the_aim() {
         assert_eq!(scaled(100, Duration::from_millis(20)), 500);
         assert_eq!(scaled(2, Duration::from_secs(9)), 2);
-        assert_eq!(scaled(u32::MAX, Duration::from_millis(20)), u32::MAX);
+    }
+
+    #[test]
+    fn repeats_are_even() {
+        assert_eq!(scaled(100, Duration::from_micros(19_990)), 500);
+        assert_eq!(scaled(101, Duration::from_millis(20)), 504);
+        let most = scaled(u32::MAX, Duration::from_millis(20));
+        assert_eq!(most, u32::MAX - 1);
     }
 }
