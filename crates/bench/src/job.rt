@@ -43,6 +43,7 @@ fn run_on(job: u8, repeats: u32, m: Mesh) {
         b'C' => sessions::cut_job(m, repeats),
         b'L' => sessions::deliver_job(m, repeats),
         b'U' => sessions::status_job(m, repeats),
+        b'V' => sessions::rest_job(m, repeats),
         _ => {}
     }
 }

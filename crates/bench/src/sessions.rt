@@ -4,6 +4,7 @@ use crate::job::with_length;
 use libc::STDOUT_FILENO;
 use mesh::Answer;
 use mesh::Mesh;
+use metres::Length;
 use recovery::Change;
 use recovery::Delivered;
 use recovery::Delivery;
@@ -212,6 +213,24 @@ pub(crate) fn status_job(m: Mesh, repeats: u32) {
     print_status(status_often(s, other(m), last_link(m), repeats));
 }
 
+// The session after an unhindered run.
+fn at_rest(s: Session) -> Session {
+    let r = s.run(UNHINDERED);
+    r.session
+}
+
+pub(crate) fn rest_job(m: Mesh, repeats: u32) {
+    io::write_all(STDOUT_FILENO, b"V ");
+    let c = just_cut(m);
+    let a = c.answer;
+    let Answer::Accepted = a else {
+        print_answer(a);
+        return;
+    };
+    let s = c.session;
+    print_status(status_often(at_rest(s), at_rest(other(m)), last_link(m), repeats));
+}
+
 fn status_often(even: Session, odd: Session, link: u16, repeats: u32) -> Status {
     let mut t = even.status(link);
     let mut i: u32 = 1;
@@ -239,5 +258,16 @@ fn print_status(t: Status) {
     io::write_all(STDOUT_FILENO, b" ");
     io::print_decimal(STDOUT_FILENO, under_way as u64);
     io::write_all(STDOUT_FILENO, b" ");
-    io::print_decimal(STDOUT_FILENO, route as u64);
+    print_length(route);
+}
+
+fn print_length(r: Length) {
+    match r {
+        Length::Metres(n) => {
+            io::print_decimal(STDOUT_FILENO, n as u64);
+        }
+        Length::NotKnown => {
+            io::write_all(STDOUT_FILENO, b"-");
+        }
+    }
 }

@@ -3,6 +3,7 @@ use Prim.Native.Nat.{ℕ}
 use Rattle.scan.specs.Total.{bit}
 use Rattle.mesh.specs.declared.Answer.{Answer}
 use Rattle.mesh.specs.declared.Answer.the-variants.{Accepted, Refused}
+use Rattle.metres.specs.declared.Length.the-variants as lengths
 use Rattle.recovery.specs.declared.Session.{Session}
 use Rattle.recovery.specs.declared.Change.{Change}
 use Rattle.recovery.specs.declared.Delivery.{Delivery}
@@ -21,7 +22,8 @@ abbrev pub numbers : ℕ → ℕ → ℕ → ℕ → Numbers
 numbers case first second third = record { case = case; first = first; second = second; third = third }
 
 -- 0 a refusal, with its number and its place; 1 accepted; 2 taken, 3 turned back, 4 released, with the node that acted; 5 the deliveries that a run made, with 1 at
--- rest and else 0; 6 a status, with the link's state, how many links are under way, and the route length
+-- rest and else 0; 6 a status whose route length is known, with the link's state, how many links are under way, and the length in metres; 7 a status whose
+-- route length is not known, with the other two
 abbrev pub refusalNumbers : ℕ → ℕ → Numbers
 refusalNumbers number place = numbers 0 number place 0
 
@@ -40,7 +42,8 @@ reportNumbers (report.Made count rest) = numbers 5 count (bit rest) 0
 reportNumbers (report.Refused number place) = refusalNumbers number place
 
 abbrev pub statusNumbers : Status → Numbers
-statusNumbers (statuses.Link state underWay route) = numbers 6 state underWay route
+statusNumbers (statuses.Link state underWay (lengths.Metres n)) = numbers 6 state underWay n
+statusNumbers (statuses.Link state underWay lengths.NotKnown) = numbers 7 state underWay 0
 statusNumbers (statuses.Refused number place) = refusalNumbers number place
 
 -- the numbers of a call's answer

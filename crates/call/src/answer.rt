@@ -4,6 +4,7 @@ ghost use Rattle.scan.specs.Total.{bit};
 ghost use Rattle.call.specs.Record.{numbers, refusalNumbers, changeNumbers, deliveredNumbers, reportNumbers, statusNumbers};
 use crate::Numbers;
 use mesh::Answer;
+use metres::Length;
 use recovery::Delivered;
 use recovery::Report;
 use recovery::Status;
@@ -71,14 +72,23 @@ pub(crate) fn of_report(r: Report) -> Numbers
     }
 }
 
-fn of_link(state: u8, busy: u16, route: u16) -> Numbers
-    ensures { λ r. ⌜ r ≡ numbers 6 state busy route ⌝ }
+fn of_link(case: u64, state: u8, busy: u16, metres: u32) -> Numbers
+    ensures { λ r. ⌜ r ≡ numbers case state busy metres ⌝ }
 {
     Numbers {
-        case: 6,
+        case,
         first: state as u64,
         second: busy as u64,
-        third: route as u64,
+        third: metres as u64,
+    }
+}
+
+fn of_measured(state: u8, busy: u16, route: Length) -> Numbers
+    ensures { λ r. ⌜ r ≡ statusNumbers (Status.Link state busy route) ⌝ }
+{
+    match route {
+        Length::Metres(n) => of_link(6, state, busy, n),
+        Length::NotKnown => of_link(7, state, busy, 0),
     }
 }
 
@@ -90,7 +100,7 @@ pub(crate) fn of_status(t: Status) -> Numbers
             state,
             under_way,
             route,
-        } => of_link(state, under_way, route),
+        } => of_measured(state, under_way, route),
         Status::Refused { number, place } => refusal(number, place),
     }
 }

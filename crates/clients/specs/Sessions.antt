@@ -5,7 +5,7 @@ use Rattle.mesh.specs.declared.Mesh.{Mesh}
 use Rattle.planner.specs.Plan.{planned}
 use Rattle.recovery.specs.declared.Session.{Session}
 use Rattle.recovery.specs.Calls.{started, routed}
-use Rattle.history.specs.History.{Call, by-value, cut, run, reply, after}
+use Rattle.history.specs.History.{Call, by-value, cut, run, status, reply, after}
 use Rattle.history.specs.Demand.{startedOn}
 use Rattle.clients.specs.declared.Begun.{Begun}
 use Rattle.clients.specs.declared.Recovered.{Recovered}
@@ -23,9 +23,10 @@ begun m = record {
 abbrev pub unhindered : Call
 unhindered = run 4294967295
 
--- the list of calls "cut k, run": the run's report, and what the route query answers after it
+-- the list of calls "cut k, run, status k": the answers of the last two, and what the route query answers after them
 unfoldable pub recovered : Session → ℕ → Recovered
 recovered s k = record {
   report = reply unhindered (after (cut by-value k ∷ []) s);
-  routed = routed (after (cut by-value k ∷ unhindered ∷ []) s);
+  status = reply (status k) (after (cut by-value k ∷ unhindered ∷ []) s);
+  routed = routed (after (cut by-value k ∷ unhindered ∷ status k ∷ []) s);
 }

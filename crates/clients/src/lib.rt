@@ -10,6 +10,7 @@ use mesh::Plan;
 use recovery::Report;
 use recovery::Routed;
 use recovery::Session;
+use recovery::Status;
 
 // What planning and starting on a mesh give.
 pub struct Begun {
@@ -19,9 +20,10 @@ pub struct Begun {
     pub starting: Answer,
 }
 
-// What a cut leads to: the report of an unhindered run, and what the route query answers after it.
+// What a cut leads to: the report of an unhindered run, and what a status of the cut link and the route query answer after it.
 pub struct Recovered {
     pub report: Report,
+    pub status: Status,
     pub routed: Routed,
 }
 

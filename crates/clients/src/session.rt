@@ -46,7 +46,7 @@ pub fn begin(m: Mesh) -> Begun
     }
 }
 
-// Cuts a link on a session, lets it run, and asks for the route. The lists of a session that a function is given have the lengths that `Sized` says.
+// Cuts a link on a session, lets it run, and asks for the link's status and the route. The lists of a session that a function is given have the lengths that `Sized` says.
 pub fn recover(s: Session, link: u16) -> Recovered
     ensures value { λ r. ⌜ r ≡ recovered s link ⌝ }
     ensures sized { λ _. ⌜ Sized s ⌝ }
@@ -56,6 +56,11 @@ pub fn recover(s: Session, link: u16) -> Recovered
     let run = cut.run(UNHINDERED);
     let report = run.report;
     let ended = run.session;
+    let status = ended.status(link);
     let routed = route(ended);
-    Recovered { report, routed }
+    Recovered {
+        report,
+        status,
+        routed,
+    }
 }

@@ -47,9 +47,6 @@ module _ (g : Digraph) where
 abbrev pub asRoute : List ℕ → Route
 asRoute p = record { links = p ++ replicate (256 - length p) 0; length = length p }
 
--- how many of the first links are under way, or taken
+-- how many of the first links are under way
 unfoldable pub underWayOf : ℕ → List ℕ → ℕ
 underWayOf links states = count (λ i. underWay (at states i)) (min links 256)
-
-unfoldable pub takenOf : ℕ → List ℕ → ℕ
-takenOf links states = count (λ i. eqb (at states i) 2) (min links 256)

@@ -37,11 +37,12 @@ use Rattle.recovery.specs.Formed.{Formed, recordAnswer}
 use Rattle.recovery.specs.Laws.Forming.{record-formed, refused-record}
 use Rattle.recovery.specs.Calls.{digraph, routeOf}
 use Rattle.history.specs.History.{Call, reply, next, refused, refusedAt}
-use Rattle.history.specs.Demand.{Sized, CallFollows, Demand3, AtRest, OnePath, ended, log}
+use Rattle.history.specs.Demand.{Sized, CallFollows, Demand3, AtRest, OnePath, Measured, ended, log}
 use Rattle.history.specs.Laws.Refused.{refused-keeps, record-refusal-answers}
 use Rattle.history.specs.Laws.Ruled.{call-as-ruled}
 use Rattle.history.specs.Laws.Recovered.{demand-3}
 use Rattle.history.specs.Laws.Routed.{demand-route}
+use Rattle.history.specs.Laws.Measured.{demand-length}
 use Rattle.guarantees.specs.Bench.{Row, table, Holds}
 use Rattle.guarantees.specs.Laws.Computed.{row-holds}
 
@@ -168,6 +169,14 @@ pub demand-three-route : (m : Mesh) → InRange m → planned m .answer ≡ Acce
     → log m calls .cut ≡ Link k → AtRest (ended m calls)
     → OnePath (ended m calls) (digraph (ended m calls) .head k) (digraph (ended m calls) .tail k) (routeOf (ended m calls))
 demand-three-route m r = demand-route m (r .entries)
+
+-- ---- 02, request 1: the fibre length of the route, over every list of calls (contract: crates/recovery/src/lib.rt, `Session::status`)
+
+-- at rest under a cut, after any list of calls: a status of any link answers, with no link under way, a route length that is known exactly where every
+-- link that the route query gives is measured, and is then the sum of their lengths. By `demand-three-route` these links are the one simple path
+pub demand-three-length : (m : Mesh) → InRange m → planned m .answer ≡ Accepted → (calls : List Call) (k : ℕ)
+    → log m calls .cut ≡ Link k → AtRest (ended m calls) → Measured (ended m calls)
+demand-three-length m r = demand-length m (r .entries)
 
 -- ---- 01's bench examples marked P
 

@@ -7,17 +7,20 @@ use mathlib.Core.List.{List, _∷_, _++_, map, List·Memᴰ}
 use lib.ListN.{length}
 use Rattle.scan.specs.Entry.{at, has}
 use Rattle.scan.specs.Distinct.{Distinct}
+use Rattle.metres.specs.Length.{LengthAlong}
 use Rattle.flood.specs.Digraph.{Digraph}
 use Rattle.flood.specs.Path.{Chain}
 use Rattle.mesh.specs.declared.Mesh.{Mesh}
 use Rattle.mesh.specs.declared.Answer.the-variants.{Accepted}
+use Rattle.mesh.specs.WellFormed.{lengths}
 use Rattle.planner.specs.Plan.{planned}
 use Rattle.formed.specs.declared.Cut.the-variants.{Link}
 use Rattle.recovery.specs.declared.Session.{Session}
+use Rattle.recovery.specs.declared.Status.the-variants as statuses
 use Rattle.recovery.specs.Formed.{recordAnswer}
 use Rattle.topology.specs.Backup.{backup}
-use Rattle.recovery.specs.Calls.{digraph, started, afterDelivery}
-use Rattle.history.specs.History.{Call, Log, reply, next, after, answers, accepted, emptyLog, logged}
+use Rattle.recovery.specs.Calls.{digraph, started, afterDelivery, routeLengthOf, routeOf, routedAs, routed}
+use Rattle.history.specs.History.{Call, Log, status, reply, next, after, answers, accepted, emptyLog, logged}
 use Rattle.history.specs.Rules.{Now, start, ruleNext, ruleReply, ruled}
 
 module _ (s : Session) where
@@ -46,6 +49,13 @@ module _ (s : Session) where
     pub further : (i : ℕ) → (accepted (afterDelivery s i .answer) ≡ true) ↔ UnderWay i
     pub route : AtRest → (row : List ℕ) × OnePath (digraph s .head k) (digraph s .tail k) row
 
+  -- at rest under a cut: the route query is accepted; status accepts every link and answers its state, that none is under way, and a route length, which
+  -- is that of the links that the route query gives
+  pub record Measured : Type 0 where
+    pub given : routed s ≡ routedAs Accepted (routeOf s)
+    pub told : (j : ℕ) → j < s .mesh .count → reply (status j) s ≡ statuses.Link (at (s .flood .states) j) 0 (routeLengthOf s)
+    pub length : LengthAlong (lengths (s .mesh)) (routeOf s) (routeLengthOf s)
+
   -- the session has the cut, the states and the reached nodes that the rules make
   pub record Follows (n : Now) : Type 0 where
     pub cut : s .cut ≡ n .cut
@@ -70,7 +80,7 @@ pub record CallFollows (s : Session) (c : Call) : Type 0 where
   pub plan : next c s .plan ≡ s .plan
   pub follows : Follows (next c s) (ruleNext (digraph s) c (seen s))
   -- it answers what the rules give
-  pub answered : reply c s ≡ ruleReply (digraph s) c (seen s)
+  pub answered : reply c s ≡ ruleReply (digraph s) (lengths (s .mesh)) c (seen s)
 
 -- ---- a list of calls
 
@@ -100,7 +110,7 @@ module _ (m : Mesh) (calls : List Call) where
     pub follows : Follows ended (ruled (digraphOn m) calls start)
     -- each call answers what the rules give after the calls before it
     pub answered : (first : List Call) (c : Call) (rest : List Call) → calls ≡ first ++ (c ∷ rest)
-        → reply c (after first (startedOn m)) ≡ ruleReply (digraphOn m) c (ruled (digraphOn m) first start)
+        → reply c (after first (startedOn m)) ≡ ruleReply (digraphOn m) (lengths m) c (ruled (digraphOn m) first start)
     -- the cut that stands by the answers is the session's, and under it the session recovers
     pub cut : ended .cut ≡ log .cut
     pub recovers : (k : ℕ) → log .cut ≡ Link k → Recovers ended k (log .deliveries)

@@ -3,6 +3,7 @@ pub mod Kept
 pub mod Recovered
 pub mod Refused
 pub mod Routed
+pub mod Measured
 pub mod Ruled
 pub mod RuledCalls
 pub mod RuledNext

@@ -1,11 +1,12 @@
 -- 01's rules of the recovery machine by themselves: what a list of calls makes of the cut, the states and the reached nodes, and what each
--- call answers. They know the back-up digraph and no stored record. Read beside 01, "The recovery machine". Definitions only.
+-- call answers. They know the back-up digraph and the lengths of its links, and no stored record. Read beside 01, "The recovery machine". Definitions only.
 use Prim.Native.Nat.{ℕ, zero, suc}
 use mathlib.Core.Bool.{Bool, true, false, cond, not, _&&_, _||_}
 use mathlib.Core.List.{List, [], _∷_}
 use lib.Dec.{eqb, ltb}
 use Rattle.scan.specs.Lowest.{lowest, any}
 use Rattle.scan.specs.Total.{count}
+use Rattle.metres.specs.Length.{routeLength}
 use Rattle.mesh.specs.declared.Answer.{Answer}
 use Rattle.mesh.specs.declared.Answer.the-variants.{Accepted, Refused}
 use Rattle.mesh.specs.Mesh.{must}
@@ -163,19 +164,19 @@ module _ (g : Digraph) where
   runMade (cuts.Link k) allowed n = runCount k allowed n
   runMade cuts.Nothing allowed n = 0
 
-  -- a link's state, how many links are under way, and the number of taken links at rest under a cut, otherwise 0
-  abbrev pub statusReply : Answer → ℕ → Now → Status
-  statusReply (Refused number place) j n = statuses.Refused number place
-  statusReply Accepted j n =
-      statuses.Link (n .state j) (count (λ i. moving (n .state i)) links)
-      (cond (stands (n .cut) && rest n) (count (λ i. eqb (n .state i) 2) links) 0)
+  -- a link's state, how many links are under way, and the route length, by the length of each link
+  abbrev pub statusReply : (ℕ → ℕ) → Answer → ℕ → Now → Status
+  statusReply length (Refused number place) j n = statuses.Refused number place
+  statusReply length Accepted j n =
+      statuses.Link (n .state j) (count (λ i. moving (n .state i)) links) (routeLength (stands (n .cut) && rest n) length (n .state) links)
 
-  abbrev pub ruleReply : (c : Call) → Now → Reply c
-  ruleReply (cut w j) n = refusal (cut w j) n
-  ruleReply (deliver w j) n = deliverReply (refusal (deliver w j) n) j (ruleNext (deliver w j) n)
-  ruleReply (run allowed) n = runReply (refusal (run allowed) n) (runMade (n .cut) allowed n) (ruleNext (run allowed) n)
-  ruleReply (mend w j) n = refusal (mend w j) n
-  ruleReply (status j) n = statusReply (refusal (status j) n) j n
+  -- what each call answers, by the length of each link
+  abbrev pub ruleReply : (ℕ → ℕ) → (c : Call) → Now → Reply c
+  ruleReply length (cut w j) n = refusal (cut w j) n
+  ruleReply length (deliver w j) n = deliverReply (refusal (deliver w j) n) j (ruleNext (deliver w j) n)
+  ruleReply length (run allowed) n = runReply (refusal (run allowed) n) (runMade (n .cut) allowed n) (ruleNext (run allowed) n)
+  ruleReply length (mend w j) n = refusal (mend w j) n
+  ruleReply length (status j) n = statusReply length (refusal (status j) n) j n
 
   -- what the list of calls makes
   unfoldable pub ruled : List Call → Now → Now

@@ -1,11 +1,14 @@
 // The lines of a listing: the mesh, each link with its direction, and what each cut leads to (01, the program meshplan).
 use clients::session::recover;
 use flood::Route;
+use metres::Length;
 use recovery::Report;
 use recovery::Session;
+use recovery::Status;
 use streams::held::SIZE;
 use streams::held::end_line;
 use streams::held::put_field;
+use streams::held::put_hyphen;
 use streams::held::put_number;
 use streams::held::put_pair;
 use streams::held::write;
@@ -93,10 +96,28 @@ fn put_cut(out: &mut [u8], at: usize, fresh: Session, k: u16) -> usize {
     };
     let a = put_arc(out, at, k, planned(fresh, k));
     let b = put_number(out, a, count as u64);
+    let status = recovered.status;
+    let c = put_length(out, b, status);
     let routed = recovered.routed;
     let route = routed.route;
-    let c = put_route(out, b, route);
-    end_line(out, c)
+    let d = put_route(out, c, route);
+    end_line(out, d)
+}
+
+// The route length that a status gives: a number, or a hyphen where it is not known.
+fn put_length(out: &mut [u8], at: usize, status: Status) -> usize {
+    let Status::Link {
+        state: _,
+        under_way: _,
+        route,
+    } = status
+    else {
+        return at;
+    };
+    match route {
+        Length::Metres(n) => put_number(out, at, n as u64),
+        Length::NotKnown => put_hyphen(out, at),
+    }
 }
 
 // The link, then the ends of its primary arc: x, then y.

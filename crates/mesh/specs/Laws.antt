@@ -1,5 +1,6 @@
 pub mod Answer
 pub mod Links
+pub mod Lengths
 pub mod Ends
 pub mod Zeros
 pub mod Refused

@@ -11,6 +11,10 @@ use Rattle.mesh.specs.Mesh.{zeroLink}
 abbrev pub link : Mesh → ℕ → Link
 link m i = getD (m .links) i zeroLink
 
+-- the length of link i in metres, 0 where it is not measured
+abbrev pub lengths : Mesh → ℕ → ℕ
+lengths m i = link m i .length
+
 -- the ends are two nodes, the low one first
 pub record Joins (n : ℕ) (l : Link) : Type 0 where
   pub apart : l .low < l .high

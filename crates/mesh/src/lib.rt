@@ -7,7 +7,9 @@ ghost use Rattle.mesh.specs.Parts.{partsAnswer};
 mod in_turn;
 mod links;
 
+pub use links::Parts;
 pub use links::split;
+pub use links::split_along;
 
 pub struct Link {
     pub low: u8,

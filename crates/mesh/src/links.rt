@@ -2,12 +2,16 @@
 use crate::Link;
 use crate::Mesh;
 use ends::lower;
+use metres::Length;
+use metres::length_of;
 ghost use mathlib.Core.Path.{_≡_};
-ghost use mathlib.Core.Bool.{_||_};
-ghost use Prim.Native.Nat.{_%_};
+ghost use mathlib.Core.Bool.{true, _||_};
+ghost use Prim.Native.Nat.{_%_, _<_, min};
 ghost use lib.Dec.{eqb};
+ghost use Rattle.scan.specs.Entry.{at};
+ghost use Rattle.metres.specs.Length.{lengthOf};
 ghost use Rattle.mesh.specs.Mesh.{isZero};
-ghost use Rattle.mesh.specs.WellFormed.{InRange};
+ghost use Rattle.mesh.specs.WellFormed.{InRange, lengths};
 ghost use Rattle.mesh.specs.Parts.{endsOf, endsInto, restZero};
 
 // The ends of a link as one number, which rises as the pairs do.
@@ -34,13 +38,28 @@ fn bits_where_odd(i: usize, l: Link) -> u64
     bits_of(l)
 }
 
-// Takes a mesh apart: stores the ends of each link as one number, and says whether each entry past the last link is zero. The entries of
-// `ends` past the last link stay. Both loops stand here, since a mesh is copied for each function that takes it; the second has no branch, so
-// that the compiler tests several entries at once, and starts at an even one, so that two entries that are read at once, 16 bytes, do not lie
-// across two blocks of 16 of the copy.
-pub fn split(m: Mesh, ends: &mut [u16; 256]) -> bool
-    ensures rest { λ r. ⌜ r ≡ restZero m ⌝ }
+// The entry of a link.
+fn entry_of(link: u8) -> usize
+    ensures value { λ r. ⌜ r ≡ link ⌝ }
+    ensures range { λ r. ⌜ r < 256 ⌝ }
+{
+    link as usize
+}
+
+// What is read off a mesh's links: whether each entry past the last link is zero, and the length of the links that were listed.
+pub struct Parts {
+    pub zeros: bool,
+    pub length: Length,
+}
+
+// Takes a mesh apart: stores the ends of each link as one number, and says whether each entry past the last link is zero, and how long the links
+// are together whose numbers are the first n of `row`. The entries of `ends` past the last link stay. All loops stand here, since a mesh is
+// copied for each function that takes it; the second has no branch, so that the compiler tests several entries at once, and starts at an even
+// one, so that two entries that are read at once, 16 bytes, do not lie across two blocks of 16 of the copy.
+pub fn split_along(m: Mesh, ends: &mut [u16; 256], row: &[u8; 256], n: usize) -> Parts
+    ensures rest { λ r. ⌜ r .zeros ≡ restZero m ⌝ }
     ensures ends { λ _. ⌜ now (ends .exit) ≡ endsInto m (now (ends .entry)) ⌝ }
+    ensures length { λ r. ⌜ r .length ≡ lengthOf (λ k. lengths m (at (now (row .entry)) k)) (λ k. true) (min n 256) ⌝ }
     ensures ranges { λ _. ⌜ InRange m ⌝ }
 {
     let links = lower(m.count as usize, 256);
@@ -58,5 +77,30 @@ pub fn split(m: Mesh, ends: &mut [u16; 256]) -> bool
         bits = bits | bits_of(l);
         i += 1;
     }
-    bits == 0
+    let listed = lower(n, 256);
+    let mut metres: u32 = 0;
+    let mut unmeasured = false;
+    let mut k: usize = 0;
+    while k < listed {
+        let l = m.links[entry_of(row[k])];
+        metres += l.length as u32;
+        unmeasured = unmeasured | (l.length == 0);
+        k += 1;
+    }
+    let length = length_of(metres, unmeasured);
+    Parts {
+        zeros: bits == 0,
+        length,
+    }
+}
+
+// The same with no link listed.
+pub fn split(m: Mesh, ends: &mut [u16; 256]) -> bool
+    ensures rest { λ r. ⌜ r ≡ restZero m ⌝ }
+    ensures ends { λ _. ⌜ now (ends .exit) ≡ endsInto m (now (ends .entry)) ⌝ }
+    ensures ranges { λ _. ⌜ InRange m ⌝ }
+{
+    let row = [0u8; 256];
+    let parts = split_along(m, ends, &row, 0);
+    parts.zeros
 }

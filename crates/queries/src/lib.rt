@@ -5,21 +5,22 @@ use formed::Cut;
 use formed::cut_link;
 use mesh::Answer;
 use mesh::Mesh;
+use metres::Length;
 use states::count;
 ghost use mathlib.Core.Path.{_≡_};
 ghost use mathlib.Core.List.{[]};
 ghost use Rattle.flood.specs.Lent.{flood};
 ghost use Rattle.flood.specs.Topology.{asRoute};
 ghost use Rattle.pieces.specs.Pieces as given;
-ghost use Rattle.queries.specs.Counts.{lengthBy};
-ghost use Rattle.queries.specs.Queries.{mendOf, OfLink, OfRoute};
+ghost use Rattle.queries.specs.Counts.{linksBy};
+ghost use Rattle.queries.specs.Queries.{mendOf, zeroTold, OfLink, OfRoute};
 
 // The status of a link: its answer, the link's state, how many links are under way, and the route length; zeros beside a refusal.
 pub struct Told {
     pub answer: Answer,
     pub state: u8,
     pub under_way: u16,
-    pub route: u16,
+    pub route: Length,
 }
 
 // The route query: the route's links from x on, none beside a refusal.
@@ -79,7 +80,7 @@ pub fn mend_answer<'a>(
     refusals::mend_answer(tested, mesh.count, cut, rest, link)
 }
 
-// A link's state, how many links are under way, and the route length.
+// A link's state, how many links are under way, and the route length. The taken links are listed first, so that the mesh is taken apart once.
 pub fn status<'a>(
     mesh: Mesh,
     directions: &[u8; 256],
@@ -90,12 +91,15 @@ pub fn status<'a>(
 ) -> Told
     ensures { λ r. ⌜ OfLink mesh (now (directions .entry)) cut (flood (now (states .entry)) (now (reached .entry))) link r ⌝ }
 {
+    let under_way = count::under_way(states, mesh.count as usize);
+    let mut row = [0u8; 256];
+    let n = taken::list(states, route_links(mesh.count, cut, under_way), &mut row);
     let mut ends = [0u16; 256];
-    let zeros = mesh::split(mesh, &mut ends);
+    let parts = mesh::split_along(mesh, &mut ends, &row, n);
     let tested = formed::record_answer(
         mesh.nodes,
         mesh.count,
-        zeros,
+        parts.zeros,
         &ends,
         directions,
         cut,
@@ -104,16 +108,10 @@ pub fn status<'a>(
     );
     let answer = refusals::status_answer(tested, mesh.count, link);
     let Answer::Accepted = answer else {
-        return Told {
-            answer,
-            state: 0,
-            under_way: 0,
-            route: 0,
-        };
+        return refused_status(answer);
     };
-    let under_way = count::under_way(states, mesh.count as usize);
-    let route = route_length(mesh.count, cut, states, under_way);
     let state = states[link as usize];
+    let route = parts.length;
     Told {
         answer,
         state,
@@ -166,9 +164,22 @@ fn no_route() -> Route
     }
 }
 
-// The number of taken links at rest under a cut, else 0.
-fn route_length(count: u16, cut: Cut, states: &[u8; 256], busy: u16) -> u16
-    ensures { λ r. ⌜ r ≡ lengthBy count cut (now (states .entry)) busy ⌝ }
+// What a refused status tells.
+fn refused_status(answer: Answer) -> Told
+    ensures { λ r. ⌜ r ≡ zeroTold answer ⌝ }
+{
+    let route = Length::Metres(0);
+    Told {
+        answer,
+        state: 0,
+        under_way: 0,
+        route,
+    }
+}
+
+// How many links the route length is over: all at rest under a cut, else none.
+fn route_links(count: u16, cut: Cut, busy: u16) -> usize
+    ensures { λ r. ⌜ r ≡ linksBy count cut busy ⌝ }
 {
     let Cut::Link(_) = cut else {
         return 0;
@@ -176,5 +187,5 @@ fn route_length(count: u16, cut: Cut, states: &[u8; 256], busy: u16) -> u16
     if busy != 0 {
         return 0;
     }
-    count::taken(states, count as usize)
+    count as usize
 }

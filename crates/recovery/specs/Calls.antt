@@ -6,16 +6,19 @@ use mathlib.Core.List.{List, []}
 use lib.Dec.{eqb}
 use lib.ListN.{replicate}
 use Rattle.scan.specs.Entry.{at}
+use Rattle.metres.specs.declared.Length.{Length}
+use Rattle.metres.specs.Length.{routeLength}
 use Rattle.mesh.specs.declared.Mesh.{Mesh}
 use Rattle.mesh.specs.declared.Plan.{Plan}
 use Rattle.mesh.specs.declared.Answer.{Answer}
 use Rattle.mesh.specs.declared.Answer.the-variants.{Accepted, Refused}
 use Rattle.mesh.specs.Mesh.{zeroMesh}
+use Rattle.mesh.specs.WellFormed.{lengths}
 use Rattle.flood.specs.declared.Flood.{Flood}
 use Rattle.flood.specs.Digraph.{Digraph, Failure}
 use Rattle.flood.specs.Digraph as failures
 use Rattle.flood.specs.Machine as machine
-use Rattle.flood.specs.Machine.{fresh, atRest, activity, takenLinks, begin, step}
+use Rattle.flood.specs.Machine.{fresh, atRest, activity, begin, step}
 use Rattle.flood.specs.Topology.{routeFrom, asRoute}
 use Rattle.formed.specs.declared.Cut.{Cut}
 use Rattle.formed.specs.declared.Cut.the-variants as cut
@@ -122,12 +125,12 @@ runAs (Refused number place) s r = record { session = s; report = report.Refused
 unfoldable pub afterRun : Session → ℕ → Run
 afterRun s allowance = runAs (runAnswer s) s (machine.run (digraph s) (failure s) allowance (s .flood))
 
--- the route length: the number of taken links at rest under a cut, else 0
-unfoldable pub routeLength : Session → ℕ
-routeLength s = cond (standing (s .cut) && resting s) (takenLinks (digraph s) (s .flood)) 0
+-- 02's route length: at rest under a cut that of the taken links, else 0 metres
+abbrev pub routeLengthOf : Session → Length
+routeLengthOf s = routeLength (standing (s .cut) && resting s) (lengths (s .mesh)) (at (s .flood .states)) (s .mesh .count)
 
 abbrev pub statusAs : Answer → Session → ℕ → Status
-statusAs Accepted s k = status.Link (at (s .flood .states) k) (activity (digraph s) (s .flood)) (routeLength s)
+statusAs Accepted s k = status.Link (at (s .flood .states) k) (activity (digraph s) (s .flood)) (routeLengthOf s)
 statusAs (Refused number place) s k = status.Refused number place
 
 unfoldable pub statusOf : Session → ℕ → Status

@@ -14,6 +14,7 @@ use formed::Cut;
 use mesh::Answer;
 use mesh::Mesh;
 use mesh::Plan;
+use metres::Length;
 use queries::Told;
 
 pub struct Session {
@@ -58,7 +59,7 @@ pub enum Status {
     Link {
         state: u8,
         under_way: u16,
-        route: u16,
+        route: Length,
     },
     Refused {
         number: u8,
@@ -334,11 +335,12 @@ fn link_status(t: Told) -> Status
     ensures { λ r. ⌜ r ≡ statusBy (t .answer) (Status.Link (t .state) (t .«under_way») (t .route)) ⌝ }
 {
     let answer = t.answer;
+    let route = t.route;
     match answer {
         Answer::Accepted => Status::Link {
             state: t.state,
             under_way: t.under_way,
-            route: t.route,
+            route,
         },
         Answer::Refused { number, place } => Status::Refused { number, place },
     }

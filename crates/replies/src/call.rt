@@ -38,7 +38,8 @@ fn show_reply(r: Reply) {
         3 => field(b" turned", r.first),
         4 => field(b" released", r.first),
         5 => made(r.first, r.second),
-        _ => shown(r.first, r.second, r.third),
+        6 => measured(r.first, r.second, r.third),
+        _ => unmeasured(r.first, r.second),
     }
 }
 
@@ -51,8 +52,14 @@ fn made(count: u64, rest: u64) {
     }
 }
 
-fn shown(state: u64, under_way: u64, route: u64) {
+fn measured(state: u64, under_way: u64, metres: u64) {
     field(b" state", state);
     field(b" busy", under_way);
-    field(b" route", route);
+    field(b" route", metres);
+}
+
+fn unmeasured(state: u64, under_way: u64) {
+    field(b" state", state);
+    field(b" busy", under_way);
+    word(b" route -");
 }

@@ -4,6 +4,7 @@ pub mod Lowest
 pub mod Rising
 pub mod Total
 pub mod Distinct
+pub mod Listed
 pub mod Flags
 pub mod Sweep
 pub mod Fill

@@ -33,6 +33,11 @@ pub fn put_number(out: &mut [u8], at: usize, n: u64) -> usize {
     put_word(out, next, &digits[..k])
 }
 
+// A space and a hyphen, where there is no number.
+pub fn put_hyphen(out: &mut [u8], at: usize) -> usize {
+    put_word(out, at, b" -")
+}
+
 // A word and a number.
 pub fn put_field(out: &mut [u8], at: usize, word: &[u8], n: u64) -> usize {
     let next = put_word(out, at, word);

@@ -4,6 +4,7 @@ use mathlib.Core.Bool.{true, false, cond}
 use lib.Dec.{eqb}
 use Rattle.mesh.specs.declared.Answer.{Answer}
 use Rattle.mesh.specs.declared.Answer.the-variants.{Accepted, Refused}
+use Rattle.metres.specs.declared.Length.the-variants as lengths
 use Rattle.recovery.specs.declared.Delivered.{Delivered}
 use Rattle.recovery.specs.declared.Delivered.the-variants as delivered
 use Rattle.recovery.specs.declared.Report.{Report}
@@ -30,7 +31,10 @@ abbrev reportOf : Numbers → Report
 reportOf n = cond (eqb (n .case) 5) (report.Made (n .first) (eqb (n .second) 1)) (report.Refused (n .first) (n .second))
 
 abbrev statusOf : Numbers → Status
-statusOf n = cond (eqb (n .case) 6) (statuses.Link (n .first) (n .second) (n .third)) (statuses.Refused (n .first) (n .second))
+statusOf n =
+    cond (eqb (n .case) 6) (statuses.Link (n .first) (n .second) (lengths.Metres (n .third)))
+    (cond (eqb (n .case) 7) (statuses.Link (n .first) (n .second) lengths.NotKnown)
+    (statuses.Refused (n .first) (n .second)))
 
 abbrev pub replyOf : (c : Call) → Numbers → Reply c
 replyOf (cut w k) n = changeOf n
@@ -57,7 +61,8 @@ report-told (report.Made count false) = refl
 report-told (report.Refused number place) = refl
 
 status-told : (t : Status) → statusOf (statusNumbers t) ≡ t
-status-told (statuses.Link state underWay route) = refl
+status-told (statuses.Link state underWay (lengths.Metres n)) = refl
+status-told (statuses.Link state underWay lengths.NotKnown) = refl
 status-told (statuses.Refused number place) = refl
 
 pub reply-told : (c : Call) (a : Reply c) → replyOf c (replyNumbers c a) ≡ a

@@ -8,6 +8,7 @@ use lib.Dec.{eqb}
 use borrow.Author.Tests.{eqb-true}
 use Rattle.scan.specs.Entry.{at}
 use Rattle.scan.specs.Total.{bit}
+use Rattle.metres.specs.declared.Length.the-variants as lengths
 use Rattle.mesh.specs.declared.Link.{Link}
 use Rattle.mesh.specs.declared.Mesh.{Mesh}
 use Rattle.mesh.specs.declared.Answer.{Answer}
@@ -154,17 +155,22 @@ same-report = same-coded reportNumbers back inverse
     inverse (report.Refused number place) = refl
 
 abbrev statusNumbers : Status → List ℕ
-statusNumbers (statuses.Link state underWay route) = 0 ∷ state ∷ underWay ∷ route ∷ []
-statusNumbers (statuses.Refused number place) = 1 ∷ number ∷ place ∷ []
+statusNumbers (statuses.Link state underWay (lengths.Metres n)) = 0 ∷ state ∷ underWay ∷ n ∷ []
+statusNumbers (statuses.Link state underWay lengths.NotKnown) = 1 ∷ state ∷ underWay ∷ []
+statusNumbers (statuses.Refused number place) = 2 ∷ number ∷ place ∷ []
 
 same-status : (a b : Status) → sameNumbers (statusNumbers a) (statusNumbers b) ≡ true → a ≡ b
 same-status = same-coded statusNumbers back inverse
   where
     back : List ℕ → Status
-    back l = cond (eqb (at l 0) 0) (statuses.Link (at l 1) (at l 2) (at l 3)) (statuses.Refused (at l 1) (at l 2))
+    back l =
+        cond (eqb (at l 0) 0) (statuses.Link (at l 1) (at l 2) (lengths.Metres (at l 3)))
+        (cond (eqb (at l 0) 1) (statuses.Link (at l 1) (at l 2) lengths.NotKnown)
+        (statuses.Refused (at l 1) (at l 2)))
 
     inverse : (a : Status) → back (statusNumbers a) ≡ a
-    inverse (statuses.Link state underWay route) = refl
+    inverse (statuses.Link state underWay (lengths.Metres n)) = refl
+    inverse (statuses.Link state underWay lengths.NotKnown) = refl
     inverse (statuses.Refused number place) = refl
 
 abbrev sameReply : (c : Call) → Reply c → Reply c → Bool

@@ -18,6 +18,7 @@ use Rattle.mesh.specs.declared.Mesh.{Mesh}
 use Rattle.mesh.specs.declared.Plan.{Plan}
 use Rattle.mesh.specs.declared.Answer.{Answer}
 use Rattle.mesh.specs.declared.Answer.the-variants.{Accepted, Refused}
+use Rattle.mesh.specs.WellFormed.{lengths}
 use Rattle.planner.specs.Plan.{planned}
 use Rattle.recovery.specs.declared.Change.{Change}
 use Rattle.recovery.specs.declared.Session.{Session}
@@ -72,7 +73,7 @@ module _ (m : Mesh) (good : planned m .answer ≡ Accepted) where
       Passing calls s
       → Follows (after calls s) (ruled (digraphOn m) calls start)
       × ((first : List Call) (c : Call) (rest : List Call) → calls ≡ first ++ (c ∷ rest)
-      → reply c (after first s) ≡ ruleReply (digraphOn m) c (ruled (digraphOn m) first start))
+      → reply c (after first s) ≡ ruleReply (digraphOn m) (lengths m) c (ruled (digraphOn m) first start))
 
   started-ruled : (calls : List Call) → Ruled calls (startedOn m)
   started-ruled calls = subst (λ (r : Change). Ruled calls (r .session)) (sym (started-fresh m good)) (λ passing. (

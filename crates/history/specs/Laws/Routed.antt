@@ -28,6 +28,10 @@ use Rattle.history.specs.Demand.{AtRest, OnePath, ended, log}
 use Rattle.history.specs.Laws.Kept.{cutSession, kept-cut}
 use Rattle.history.specs.Laws.Started.{strong, ended-kept}
 
+-- no link is under way
+pub rest-seen : (s : Session) → AtRest s → resting s ≡ true
+rest-seen s r = at-rest-says (digraph s) (s .flood) .1 (λ i l. (λ e. r i (l, inl e), λ e. r i (l, inr e)))
+
 module _ (m : Mesh) (p : Plan) (joined : Strong (backup m p)) (k n : ℕ) (f : Flood) (b : k < m .count) where
   abbrev g : Digraph
   g = backup m p
@@ -55,7 +59,7 @@ module _ (m : Mesh) (p : Plan) (joined : Strong (backup m p)) (k n : ℕ) (f : F
 
   pub rest-path : Progress g c n f → AtRest s → OnePath s (g .head k) (g .tail k) (routeOf s)
   rest-path q r =
-      let t : resting s ≡ true = at-rest-says g f .1 (λ i l. (λ e. r i (l, inl e), λ e. r i (l, inr e))) in
+      let t : resting s ≡ true = rest-seen s r in
       let (row, w) = rest-route g c q t (cut-sound joined k b) in
       subst (OnePath s (g .head k) (g .tail k)) (sym (query-is t w)) (route-path w)
 

@@ -1,10 +1,12 @@
 -- A session that passes its record test follows the rules, call by call, and so over a list of calls: what the rules see of it are functions, equal where
 -- their values are. Assumes nothing.
+use Prim.Native.Nat.{ℕ}
 use mathlib.Core.Path.{_≡_, refl, _∙_, ap, ap₂, subst}
 use mathlib.Core.List.{List, [], _∷_, _++_, append-assoc}
 use Rattle.mesh.specs.declared.Mesh.{Mesh}
 use Rattle.mesh.specs.declared.Plan.{Plan}
 use Rattle.mesh.specs.declared.Answer.the-variants.{Accepted}
+use Rattle.mesh.specs.WellFormed.{lengths}
 use Rattle.flood.specs.Digraph.{Digraph}
 use Rattle.recovery.specs.declared.Session.{Session}
 use Rattle.recovery.specs.Formed.{recordAnswer}
@@ -31,8 +33,8 @@ fresh-follows m p = seen-follows (fresh-seen m p)
 -- ---- one call
 
 module _ (s : Session) (n : Now) (z : Sized s) (r : recordAnswer s ≡ Accepted) (F : Follows s n) where
-  pub reply-follows : (c : Call) → reply c s ≡ ruleReply (digraph s) c n
-  reply-follows c = reply-seen s z r c ∙ ap (ruleReply (digraph s) c) (follows-seen F)
+  pub reply-follows : (c : Call) → reply c s ≡ ruleReply (digraph s) (lengths (s .mesh)) c n
+  reply-follows c = reply-seen s z r c ∙ ap (ruleReply (digraph s) (lengths (s .mesh)) c) (follows-seen F)
 
   pub next-follows : (c : Call) → Follows (next c s) (ruleNext (digraph s) c n)
   next-follows c = seen-follows (next-seen s z r c ∙ ap (ruleNext (digraph s) c) (follows-seen F))
@@ -76,9 +78,9 @@ list-follows s n (c ∷ cs) z h F =
 
 pub list-answers : (s : Session) (n : Now) (calls : List Call) → Sized s → Passing calls s → Follows s n
     → (first : List Call) (c : Call) (rest : List Call) → calls ≡ first ++ (c ∷ rest)
-    → reply c (after first s) ≡ ruleReply (digraph s) c (ruled (digraph s) first n)
+    → reply c (after first s) ≡ ruleReply (digraph s) (lengths (s .mesh)) c (ruled (digraph s) first n)
 list-answers s n calls z h F first c rest e =
     let passing : Passing first s = λ p q d. h p (q ++ (c ∷ rest)) (e ∙ ap (λ (l : List Call). l ++ (c ∷ rest)) d ∙ append-assoc p q (c ∷ rest)) in
     let m : Now = ruled (digraph s) first n in
     reply-follows (after first s) m (after-sized first s z) (h first (c ∷ rest) e) (list-follows s n first z passing F) c
-    ∙ ap (λ (g : Digraph). ruleReply g c m) (same-backup (after-mesh-plan first s))
+    ∙ ap₂ (λ (g : Digraph) (length : ℕ → ℕ). ruleReply g length c m) (same-backup (after-mesh-plan first s)) (ap lengths (after-mesh-plan first s .0))

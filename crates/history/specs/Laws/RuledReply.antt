@@ -3,14 +3,15 @@ use Prim.Native.Nat.{ℕ}
 use mathlib.Core.Path.{_≡_, refl, _∙_, ap, ap₂}
 use Rattle.mesh.specs.declared.Answer.{Answer}
 use Rattle.mesh.specs.declared.Answer.the-variants.{Accepted, Refused}
+use Rattle.mesh.specs.WellFormed.{lengths}
 use Rattle.flood.specs.declared.Flood.{Flood}
 use Rattle.flood.specs.Digraph.{Digraph}
 use Rattle.flood.specs.Machine as machine
-use Rattle.flood.specs.Machine.{underWay, some, atRest, activity, takenLinks}
+use Rattle.flood.specs.Machine.{underWay, some, atRest, activity}
 use Rattle.recovery.specs.declared.Session.{Session}
 use Rattle.recovery.specs.declared.Report.the-variants as report
 use Rattle.recovery.specs.Formed.{recordAnswer}
-use Rattle.recovery.specs.Calls.{digraph, failure, change, deliveryAs, runAs, statusAs, routeLength}
+use Rattle.recovery.specs.Calls.{digraph, failure, change, deliveryAs, runAs, statusAs}
 use Rattle.recovery.specs.Calls.{deliverAnswer, runAnswer, statusAnswer, afterCut, afterDelivery, afterRun, afterMend, statusOf}
 use Rattle.history.specs.History.{Call, cut, deliver, run, mend, status, reply}
 use Rattle.history.specs.Rules.{Now, effect, changedBy, ruleNext, deliverReply, runMade, runReply, statusReply, ruleReply}
@@ -37,13 +38,13 @@ module _ (s : Session) where
   run-reply Accepted r count n h e = ap (report.Made (r .made)) (rest-is g (s .cut) (r .flood)) ∙ ap₂ (runReply g Accepted) (e refl) (h refl)
   run-reply (Refused number place) r count n h e = refl
 
-  status-reply : (a : Answer) (k : ℕ) → statusAs a s k ≡ statusReply g a k (seen s)
-  unfolding routeLength underWay some atRest activity takenLinks
+  status-reply : (a : Answer) (k : ℕ) → statusAs a s k ≡ statusReply g (lengths (s .mesh)) a k (seen s)
+  unfolding underWay some atRest activity
   status-reply Accepted k = rw (stands-is g (s .cut))
   status-reply (Refused number place) k = refl
 
   module _ (z : Sized s) (r : recordAnswer s ≡ Accepted) where
-    pub reply-seen : (c : Call) → reply c s ≡ ruleReply g c (seen s)
+    pub reply-seen : (c : Call) → reply c s ≡ ruleReply g (lengths (s .mesh)) c (seen s)
     unfolding afterCut afterDelivery afterRun afterMend statusOf ruleNext
     reply-seen (cut w k) = change-answer _ _ ∙ refusal-is s r (cut w k)
     reply-seen (deliver w k) =
@@ -56,4 +57,4 @@ module _ (s : Session) where
         run-reply (runAnswer s) (machine.run g (failure s) allowed (s .flood)) count n (made-seen s r z (run allowed)) (run-made s r z allowed)
         ∙ ap (λ (a : Answer). runReply g a count (changedBy g a (seen s) n)) (refusal-is s r (run allowed))
     reply-seen (mend w k) = change-answer _ _ ∙ refusal-is s r (mend w k)
-    reply-seen (status k) = status-reply (statusAnswer s k) k ∙ ap (λ (a : Answer). statusReply g a k (seen s)) (refusal-is s r (status k))
+    reply-seen (status k) = status-reply (statusAnswer s k) k ∙ ap (λ (a : Answer). statusReply g (lengths (s .mesh)) a k (seen s)) (refusal-is s r (status k))

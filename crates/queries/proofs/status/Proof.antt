@@ -1,17 +1,33 @@
--- `queries::status` meets its contract: refused, it says so; accepted, the counts are those over the states.
-use Prim.Native.Nat.{_≤_}
+-- `queries::status` meets its contract: refused, it says so; accepted, the count is that over the states, and the length that of the listed links,
+-- which are the taken ones at rest under a cut, and else none.
+use Prim.Native.Nat.{ℕ, _<_, _≤_, min}
 use mathlib.Core.Path.{_≡_, refl, sym, ap, _∙_}
+use mathlib.Core.Bool.{true, _&&_}
 use native.Mathlib.Omega.{arith}
 use borrow.Author.Needs.{needs}
+use Rattle.scan.specs.Entry.{at}
+use Rattle.scan.specs.Listed.{listing-le}
+use Rattle.metres.specs.Length.{lengthOf, routeLength}
+use Rattle.metres.specs.Laws.Length.{length-listed}
+use Rattle.taken.specs.Taken.{isTaken}
 use Rattle.mesh.specs.declared.Answer.{Answer}
+use Rattle.mesh.specs.declared.Answer.the-variants.{Accepted}
+use Rattle.mesh.specs.WellFormed.{lengths}
 use Rattle.mesh.specs.Laws.Answer.{refused-accepted}
 use Rattle.flood.specs.declared.Flood.{Flood}
+use Rattle.flood.specs.Machine.{atRest}
 use Rattle.flood.specs.Lent.{flood}
+use Rattle.flood.specs.Topology.{underWayOf}
 use Rattle.formed.specs.Laws.Forming.{record-few}
 use Rattle.refusals.specs.Refusals as refusals
+use Rattle.refusals.specs.Refusals.{standing}
 use Rattle.refusals.specs.Laws.Tested.{status-accepted}
-use Rattle.pieces.specs.Pieces.{tested}
+use Rattle.pieces.specs.Pieces.{digraph, tested}
 use Rattle.pieces.specs.Laws.Tested.{tested-is}
+use Rattle.queries.specs.declared.Told.{Told}
+use Rattle.queries.specs.Counts.{linksBy}
+use Rattle.queries.specs.Queries.{zeroTold}
+use Rattle.queries.specs.Laws.Counts.{length-counted}
 use Rattle.queries.proofs.status.Statement.{statement}
 use Rattle.queries.proofs.status.Tie as tie
 
@@ -23,22 +39,69 @@ lent s = let a = s .args in flood (a .states .now) (a .reached .now)
 abbrev record-of : tie.Start → Answer
 record-of s = let a = s .args in tested (a .mesh) (a .directions .now) (a .cut) (lent s)
 
--- where the mesh has been taken apart
-abbrev apart : tie.After-status-answer → tie.After-split
+-- where the mesh has been taken apart, and where the function began
+abbrev apart : tie.After-status-answer → tie.After-split-along
 apart c = c .before .before .before
+
+abbrev start : tie.After-split-along → tie.Start
+start p = p .before .before .before .before .before .before .before .before
 
 -- the answer is that of the pieces
 answered : (c : tie.After-status-answer)
-    → let s = apart c .before .before in c .status-answer .result ≡ refusals.statusAnswer (record-of s) (s .args .mesh .count) (s .args .link)
+    → let s = start (apart c) in c .status-answer .result ≡ refusals.statusAnswer (record-of s) (s .args .mesh .count) (s .args .link)
 answered c =
-    let s = apart c .before .before in
+    let p = apart c in
+    let s = start p in
     let a = s .args in
+    let e = p .split-along .ensures in
     c .status-answer .ensures
     ∙ ap (λ (t : Answer). refusals.statusAnswer t (a .mesh .count) (a .link))
-    (tested-is (a .mesh) _ _ (apart c .split .ensures) _ (a .cut) (lent s) (c .before .record-answer .ensures))
+    (tested-is (a .mesh) _ _ (e .0, (e .1 .0, e .1 .1 .1)) _ (a .cut) (lent s) (c .before .record-answer .ensures))
 
-split-requires : tie.Need-split-requires
-split-requires c κs = search needs
+-- where it accepts, the record is accepted, and there is such a link
+accepted : (c : tie.After-enum-told)
+    → let s = start (apart (c .before .before)) in
+    (record-of s ≡ Accepted) × (s .args .link < s .args .mesh .count) × (s .args .mesh .count ≤ 256)
+accepted c =
+    let s = start (apart (c .before .before)) in
+    let a = s .args in
+    let (r, below) = status-accepted (record-of s) (a .mesh .count) (a .link) (sym (answered (c .before .before)) ∙ c .enum-told .given .1) in
+    (r, below, record-few (a .mesh) (record { directions = a .directions .now }) (a .cut) (lent s) r)
+
+-- the length of the listed links is the route length
+measured : (p : tie.After-split-along)
+    → let a = start p .args in
+    a .mesh .count ≤ 256
+    → p .split-along .result .length
+    ≡ routeLength (standing (a .cut) && atRest (digraph (a .mesh) (a .directions .now)) (lent (start p))) (lengths (a .mesh)) (at (a .states .now)) (a .mesh .count)
+measured p few =
+    let a = start p .args in
+    let l = p .before .before .before in
+    let k = l .before .before in
+    let on = isTaken (a .states .now) in
+    let most = k .route-links .result in
+    let few-listed : min (l .list .result) 256 ≡ l .list .result = omega (arith, listing-le (l .list .ensures)) in
+    let over : most ≡ linksBy (a .mesh .count) (a .cut) (underWayOf (a .mesh .count) (a .states .now)) = k .route-links .ensures ∙ ap (linksBy (a .mesh .count) (a .cut)) (k .before .under-way .ensures) in
+    p .split-along .ensures .1 .1 .0
+    ∙ ap (lengthOf _ (λ i. true)) few-listed
+    ∙ length-listed (lengths (a .mesh)) (l .list .ensures)
+    ∙ ap (λ (n : ℕ). lengthOf (lengths (a .mesh)) on (min n 256)) over
+    ∙ length-counted (digraph (a .mesh) (a .directions .now)) (lent (start p)) few (lengths (a .mesh)) (a .cut)
+
+cast-under-way : tie.Need-cast-under-way
+cast-under-way c = search needs
+
+under-way-requires : tie.Need-under-way-requires
+under-way-requires c κs = search needs
+
+route-links-requires : tie.Need-route-links-requires
+route-links-requires c κs = search needs
+
+list-requires : tie.Need-list-requires
+list-requires c κs = search needs
+
+split-along-requires : tie.Need-split-along-requires
+split-along-requires c κs = search needs
 
 record-answer-requires : tie.Need-record-answer-requires
 record-answer-requires c κs = search needs
@@ -52,60 +115,54 @@ enum-told c = search needs
 enum-told-2 : tie.Need-enum-told-2
 enum-told-2 c = search needs
 
+refused-status-requires : tie.Need-refused-status-requires
+refused-status-requires c κs = search needs
+
 returns : tie.Need-returns
 returns c =
-    let t = c .enum-told2 .given .1 in
+    let d = c .before .before .before in
+    let t = c .before .enum-told2 .given .1 in
+    let z = c .refused-status .ensures in
+    let same = ap (λ (r : Told). r .answer) z in
+    let refused = same ∙ t in
     record {
-      answer = answered (c .before .before);
-      state = λ e. refused-accepted (sym t ∙ e);
-      busy = λ e. refused-accepted (sym t ∙ e);
-      route = λ e. refused-accepted (sym t ∙ e);
-      zeros = λ e. (refl, refl, refl);
+      answer = same ∙ answered d;
+      state = λ e. refused-accepted (sym refused ∙ e);
+      busy = λ e. refused-accepted (sym refused ∙ e);
+      route = λ e. refused-accepted (sym refused ∙ e);
+      zeros = λ e. z ∙ ap zeroTold (sym same ∙ e);
     }
 
-cast-under-way : tie.Need-cast-under-way
-cast-under-way c = search needs
-
-under-way-requires : tie.Need-under-way-requires
-under-way-requires c κs = search needs
-
-route-length-requires : tie.Need-route-length-requires
-route-length-requires c κs = search needs
-
 element-copy-out-state : tie.Need-element-copy-out-state
-element-copy-out-state c =
-    let e = c .before .before .before in
-    let d = e .before .before in
-    let s = apart d .before .before in
-    let a = s .args in
-    let (r, below) = status-accepted (record-of s) (a .mesh .count) (a .link) (sym (answered d) ∙ e .enum-told .given .1) in
-    let few : a .mesh .count ≤ 256 = record-few (a .mesh) (record { directions = a .directions .now }) (a .cut) (lent s) r in
-    omega arith
+element-copy-out-state c = let (r, below, few) = accepted c in omega arith
 
 returns-2 : tie.Need-returns-2
 returns-2 c =
-    let l = c .before in
-    let d = l .before .before .before .before .before in
+    let told = c .before in
+    let d = told .before .before in
+    let p = apart d in
     record {
       answer = answered d;
       state = λ e. refl;
-      busy = λ e. l .before .under-way .ensures;
-      route = λ e. l .route-length .ensures;
-      zeros = λ e. refused-accepted (sym e ∙ l .before .before .before .enum-told .given .1);
+      busy = λ e. p .before .before .before .before .before .before .under-way .ensures;
+      route = λ e. measured p (accepted told .2);
+      zeros = λ e. refused-accepted (sym e ∙ told .enum-told .given .1);
     }
 
 pub status-spec : {M : Type 1} → statement M
 status-spec =
     tie.close
     (tie.spec
-    split-requires
+    cast-under-way
+    under-way-requires
+    route-links-requires
+    list-requires
+    split-along-requires
     record-answer-requires
     status-answer-requires
     enum-told
     enum-told-2
+    refused-status-requires
     returns
-    cast-under-way
-    under-way-requires
-    route-length-requires
     element-copy-out-state
     returns-2)

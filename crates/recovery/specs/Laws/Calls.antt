@@ -22,9 +22,8 @@ use Rattle.changes.specs.declared.Made.{Made}
 use Rattle.changes.specs.Changes.{AfterDelivery, AfterRun}
 use Rattle.queries.specs.declared.Told.{Told}
 use Rattle.queries.specs.declared.Found.{Found}
-use Rattle.queries.specs.Counts.{lengthBy}
 use Rattle.queries.specs.Queries.{OfLink, linksWhere, OfRoute}
-use Rattle.queries.specs.Laws.Counts.{under-way-counted, length-counted}
+use Rattle.queries.specs.Laws.Counts.{under-way-counted}
 use Rattle.recovery.specs.declared.Session.{Session}
 use Rattle.recovery.specs.declared.Delivered.{Delivered}
 use Rattle.recovery.specs.declared.Delivered.the-variants as delivered
@@ -35,7 +34,7 @@ use Rattle.recovery.specs.declared.Run.{Run}
 use Rattle.recovery.specs.declared.Status.the-variants as status
 use Rattle.recovery.specs.declared.Routed.{Routed}
 use Rattle.recovery.specs.Calls.{digraph, failureOf, failure, withFlood, deliverAnswer, runAnswer, statusAnswer}
-use Rattle.recovery.specs.Calls.{change, acted, deliveryAs, afterDelivery, runAs, afterRun, routeLength, statusAs, statusOf, routeOf, routedAs, routed}
+use Rattle.recovery.specs.Calls.{change, acted, deliveryAs, afterDelivery, runAs, afterRun, statusAs, statusOf, routeOf, routedAs, routed}
 use Rattle.recovery.specs.Pieces.{changeTo, deliveredBy, reportBy, statusBy}
 use Rattle.recovery.specs.Laws.Forming.{record-few}
 use Rattle.recovery.specs.Laws.Tested.{deliver-accepted, run-accepted, status-accepted}
@@ -126,15 +125,14 @@ module _ (s : Session) where
 
   pub status-made : (k : ℕ) (r : Told) → OfLink (s .mesh) (s .plan .directions) (s .cut) (s .flood) k r
       → statusBy (r .answer) (status.Link (r .state) (r .«under_way») (r .route)) ≡ statusOf s k
-  unfolding statusOf routeLength
+  unfolding statusOf
   status-made k r A = go (r .answer) refl
     where
       go : (x : Answer) → r .answer ≡ x → statusBy x (status.Link (r .state) (r .«under_way») (r .route)) ≡ statusAs (statusAnswer s k) s k
       go Accepted e =
           let a = sym (A .answer) ∙ e in
           let few : s .mesh .count ≤ 256 = record-few s (status-accepted s k a .0) in
-          (λ i. status.Link (A .state e i) ((A .busy e ∙ under-way-counted (digraph s) (s .flood) few) i)
-          ((A .route e ∙ ap (lengthBy (s .mesh .count) (s .cut) (s .flood .states)) (A .busy e) ∙ length-counted (digraph s) (s .flood) few (s .cut)) i))
+          (λ i. status.Link (A .state e i) ((A .busy e ∙ under-way-counted (digraph s) (s .flood) few) i) (A .route e i))
           ∙ ap (λ (x : Answer). statusAs x s k) (sym a)
       go (Refused number place) e = ap (λ (x : Answer). statusAs x s k) (sym e ∙ A .answer)
 

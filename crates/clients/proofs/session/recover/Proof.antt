@@ -1,4 +1,4 @@
--- `clients::session::recover` meets its contract: its calls are those of the list "cut, run", and then the route query.
+-- `clients::session::recover` meets its contract: its calls are those of the list "cut, run, status", and then the route query.
 use mathlib.Core.Path.{_≡_, _∙_, ap}
 use Rattle.scan.specs.Part.{length-mapped}
 use Rattle.recovery.specs.declared.Change.{Change}
@@ -20,17 +20,21 @@ cut-requires c κs = search needs
 run-requires : tie.Need-run-requires
 run-requires c κs = search needs
 
+status-requires : tie.Need-status-requires
+status-requires c κs = search needs
+
 route-requires : tie.Need-route-requires
 route-requires c κs = search needs
 
 returns : tie.Need-returns
 unfolding recovered after
 returns c =
-    let run = c .before .before in
+    let told = c .before in
+    let run = told .before .before in
     let cut = run .before .before in
     let ran : run .run .result ≡ afterRun (afterCut (cut .before .args .s) (cut .before .args .link) .session) 4294967295 =
     run .run .ensures ∙ ap (λ (d : Change). afterRun (d .session) 4294967295) (cut .cut .ensures) in
-    (rw (c .route .ensures, ran), sized (cut .before))
+    (rw (c .route .ensures, told .status .ensures, ran), sized (cut .before))
 
 pub recover-spec : {M : Type 1} → statement M
-recover-spec = tie.close (tie.spec cut-requires run-requires route-requires returns)
+recover-spec = tie.close (tie.spec cut-requires run-requires status-requires route-requires returns)
