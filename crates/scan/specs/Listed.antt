@@ -1,6 +1,6 @@
 -- A list that begins with the indices that pass a test, rising; sums and tests over it, and the loop that makes it. Assumes nothing.
 use Prim.Native.Nat.{ℕ, zero, suc, _+_, _<_, _≤_}
-use mathlib.Core.Path.{_≡_, refl, sym, ap, ap₂, _∙_}
+use mathlib.Core.Path.{_≡_, refl, sym, ap, _∙_}
 use mathlib.Core.Logic.{⊎-elim}
 use mathlib.Core.Bool.{Bool, true, false, cond, _&&_, _||_}
 use mathlib.Core.List.{List}
@@ -11,7 +11,7 @@ use lib.ListN.{length, set}
 use Rattle.scan.specs.Test.{known, clash}
 use Rattle.scan.specs.Entry.{at, set-at}
 use Rattle.scan.specs.Lowest.{any, None, any-zero, any-next, any-fails}
-use Rattle.scan.specs.Total.{total, bit, count, total-next, count-next, count-le, count-none, count-pass, count-fail}
+use Rattle.scan.specs.Total.{total, bit, count, count-next, count-le, count-none, count-pass, count-fail}
 
 -- row begins with the indices below i that pass p, rising: each stands after as many as pass below it
 abbrev Lists : (ℕ → Bool) → ℕ → List ℕ → Type 0

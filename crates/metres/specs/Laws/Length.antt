@@ -1,6 +1,6 @@
 -- The length of links by a list of them. Assumes nothing.
 use Prim.Native.Nat.{ℕ, _<_}
-use mathlib.Core.Path.{_≡_, refl, sym, ap, ap₂, _∙_}
+use mathlib.Core.Path.{_≡_, refl, sym, ap₂, _∙_}
 use mathlib.Core.Logic.{_↔_, Iff·rfl}
 use mathlib.Core.Bool.{Bool, true, false, cond, _&&_}
 use mathlib.Core.List.{List, List·Memᴰ}
@@ -10,7 +10,7 @@ use lib.Dec.{eqb}
 use Rattle.scan.specs.Test.{Says, clash, and-says, eq-says}
 use Rattle.scan.specs.Entry.{at}
 use Rattle.scan.specs.Lowest.{any, any-zero, any-says}
-use Rattle.scan.specs.Total.{total, sumOf}
+use Rattle.scan.specs.Total.{total}
 use Rattle.scan.specs.Distinct.{Distinct, total-distinct}
 use Rattle.scan.specs.Listed.{Listing, total-listed, any-listed}
 use Rattle.metres.specs.declared.Length.{Length}
