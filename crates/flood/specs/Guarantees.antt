@@ -132,7 +132,7 @@ module _ (g : Digraph) (c : Failure) (sound : Sound g c) {f : Flood} (blank : Bl
     route-only = query.route-only g c now
 
     pub route-links : {p : List ℕ} → Route g c (at (now .states)) p → takenLinks g now ≡ length p
-    route-links = route.route-length g c now
+    route-links = route.route-links g c now
 
     pub route-found : {p : List ℕ} → Route g c (at (now .states)) p → routeFrom g links source (now .states) ≡ p
     route-found = query.route-from-is g c now

@@ -27,10 +27,10 @@ module _ (g : Digraph) (c : Failure) where
   open Digraph g using (links, tail, head)
   open Failure c using (source, target)
 
-  -- a route is as long as links are taken
-  pub route-length : (f : Flood) {p : List ℕ} → Route g c (at (f .states)) p → takenLinks g f ≡ length p
+  -- a route has as many links as are taken
+  pub route-links : (f : Flood) {p : List ℕ} → Route g c (at (f .states)) p → takenLinks g f ≡ length p
   unfolding takenLinks
-  route-length f {p} r =
+  route-links f {p} r =
       count-distinct (λ i. eqb (at (f .states) i) 2) links p (r .once)
       (λ i o. (r .path .free i o .0, eq-eqb (at (f .states) i) 2 (r .on-taken i o)))
       (λ i b t. r .taken-on i b (eqb-true (at (f .states) i) 2 t))
@@ -135,4 +135,4 @@ module _ (g : Digraph) (c : Failure) where
 
     -- so there have been two deliveries for each link ever offered, less one for each link of the route
     pub rest-exactly : {p : List ℕ} → Route g c (at (f .states)) p → n + length p ≡ 2 * offeredLinks g f
-    rest-exactly w = omega (arith, rest-made g c q r, route-length f w)
+    rest-exactly w = omega (arith, rest-made g c q r, route-links f w)

@@ -19,7 +19,7 @@ use Rattle.flood.specs.Topology.{carries, routeFrom}
 use Rattle.flood.specs.Path.{Chain, end, link, Route}
 use Rattle.flood.specs.Laws.Tests.{some-says}
 use Rattle.flood.specs.Laws.Chain.{Taken, tail-met}
-use Rattle.flood.specs.Laws.Route.{route-length}
+use Rattle.flood.specs.Laws.Route.{route-links}
 
 module _ (g : Digraph) (states : List ℕ) where
   open Digraph g using (links, tail, head)
@@ -77,7 +77,7 @@ module _ (g : Digraph) (c : Failure) (f : Flood) where
   route-from-is r =
       let short = count-le (λ i. eqb (at (f .states) i) 2) (g .links) in
       route-from-chain g (f .states) (r .path .chain) (r .path .simple)
-      (λ i o. (r .path .free i o .0, r .on-taken i o)) (λ i l s o. r .taken-on i l s) (g .links) (omega (arith, route-length g c f r, short))
+      (λ i o. (r .path .free i o .0, r .on-taken i o)) (λ i l s o. r .taken-on i l s) (g .links) (omega (arith, route-links g c f r, short))
 
   -- so there is but one route
   pub route-only : {p q : List ℕ} → Route g c (at (f .states)) p → Route g c (at (f .states)) q → p ≡ q
