@@ -5,10 +5,16 @@ use formed::Cut;
 use formed::cut_link;
 use mesh::Answer;
 use mesh::Mesh;
+use mesh::Parts;
 use metres::Length;
 use states::count;
 ghost use mathlib.Core.Path.{_≡_};
 ghost use mathlib.Core.List.{[]};
+ghost use Prim.Native.Nat.{min};
+ghost use Rattle.metres.specs.Length.{lengthOf};
+ghost use Rattle.taken.specs.Taken.{isTaken};
+ghost use Rattle.mesh.specs.Parts.{endsInto, restZero};
+ghost use Rattle.mesh.specs.WellFormed.{InRange, lengths};
 ghost use Rattle.flood.specs.Lent.{flood};
 ghost use Rattle.flood.specs.Topology.{asRoute};
 ghost use Rattle.pieces.specs.Pieces as given;
@@ -80,7 +86,7 @@ pub fn mend_answer<'a>(
     refusals::mend_answer(tested, mesh.count, cut, rest, link)
 }
 
-// A link's state, how many links are under way, and the route length. The taken links are listed first, so that the mesh is taken apart once.
+// A link's state, how many links are under way, and the route length.
 pub fn status<'a>(
     mesh: Mesh,
     directions: &[u8; 256],
@@ -92,10 +98,9 @@ pub fn status<'a>(
     ensures { λ r. ⌜ OfLink mesh (now (directions .entry)) cut (flood (now (states .entry)) (now (reached .entry))) link r ⌝ }
 {
     let under_way = count::under_way(states, mesh.count as usize);
-    let mut row = [0u8; 256];
-    let n = taken::list(states, route_links(mesh.count, cut, under_way), &mut row);
+    let links = route_links(mesh.count, cut, under_way);
     let mut ends = [0u16; 256];
-    let parts = mesh::split_along(mesh, &mut ends, &row, n);
+    let parts = split_taken(mesh, &mut ends, states, links);
     let tested = formed::record_answer(
         mesh.nodes,
         mesh.count,
@@ -175,6 +180,23 @@ fn refused_status(answer: Answer) -> Told
         under_way: 0,
         route,
     }
+}
+
+// Takes a mesh apart, and measures the taken ones of its first `links` links. They are listed first, since the mesh is read by one function.
+fn split_taken(mesh: Mesh, ends: &mut [u16; 256], states: &[u8; 256], links: usize) -> Parts
+    ensures rest { λ r. ⌜ r .zeros ≡ restZero mesh ⌝ }
+    ensures ends { λ _. ⌜ now (ends .exit) ≡ endsInto mesh (now (ends .entry)) ⌝ }
+    ensures length { λ r. ⌜ r .length ≡ lengthOf (lengths mesh) (isTaken (now (states .entry))) (min links 256) ⌝ }
+    ensures ranges { λ _. ⌜ InRange mesh ⌝ }
+{
+    if links == 0 {
+        let zeros = mesh::split(mesh, ends);
+        let length = Length::Metres(0);
+        return Parts { zeros, length };
+    }
+    let mut row = [0u8; 256];
+    let n = taken::list(states, links, &mut row);
+    mesh::split_along(mesh, ends, &row, n)
 }
 
 // How many links the route length is over: all at rest under a cut, else none.

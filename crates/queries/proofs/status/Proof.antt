@@ -1,14 +1,12 @@
--- `queries::status` meets its contract: refused, it says so; accepted, the count is that over the states, and the length that of the listed links,
--- which are the taken ones at rest under a cut, and else none.
+-- `queries::status` meets its contract: refused, it says so; accepted, the count is that over the states, and the length that of the taken links at
+-- rest under a cut, else of none.
 use Prim.Native.Nat.{ℕ, _<_, _≤_, min}
 use mathlib.Core.Path.{_≡_, refl, sym, ap, _∙_}
-use mathlib.Core.Bool.{true, _&&_}
+use mathlib.Core.Bool.{_&&_}
 use native.Mathlib.Omega.{arith}
 use borrow.Author.Needs.{needs}
 use Rattle.scan.specs.Entry.{at}
-use Rattle.scan.specs.Listed.{listing-le}
 use Rattle.metres.specs.Length.{lengthOf, routeLength}
-use Rattle.metres.specs.Laws.Length.{length-listed}
 use Rattle.taken.specs.Taken.{isTaken}
 use Rattle.mesh.specs.declared.Answer.{Answer}
 use Rattle.mesh.specs.declared.Answer.the-variants.{Accepted}
@@ -40,11 +38,11 @@ abbrev record-of : tie.Start → Answer
 record-of s = let a = s .args in tested (a .mesh) (a .directions .now) (a .cut) (lent s)
 
 -- where the mesh has been taken apart, and where the function began
-abbrev apart : tie.After-status-answer → tie.After-split-along
+abbrev apart : tie.After-status-answer → tie.After-split-taken
 apart c = c .before .before .before
 
-abbrev start : tie.After-split-along → tie.Start
-start p = p .before .before .before .before .before .before .before .before
+abbrev start : tie.After-split-taken → tie.Start
+start p = p .before .before .before .before .before
 
 -- the answer is that of the pieces
 answered : (c : tie.After-status-answer)
@@ -53,7 +51,7 @@ answered c =
     let p = apart c in
     let s = start p in
     let a = s .args in
-    let e = p .split-along .ensures in
+    let e = p .split-taken .ensures in
     c .status-answer .ensures
     ∙ ap (λ (t : Answer). refusals.statusAnswer t (a .mesh .count) (a .link))
     (tested-is (a .mesh) _ _ (e .0, (e .1 .0, e .1 .1 .1)) _ (a .cut) (lent s) (c .before .record-answer .ensures))
@@ -68,24 +66,19 @@ accepted c =
     let (r, below) = status-accepted (record-of s) (a .mesh .count) (a .link) (sym (answered (c .before .before)) ∙ c .enum-told .given .1) in
     (r, below, record-few (a .mesh) (record { directions = a .directions .now }) (a .cut) (lent s) r)
 
--- the length of the listed links is the route length
-measured : (p : tie.After-split-along)
+-- the length is the route length
+measured : (p : tie.After-split-taken)
     → let a = start p .args in
     a .mesh .count ≤ 256
-    → p .split-along .result .length
+    → p .split-taken .result .length
     ≡ routeLength (standing (a .cut) && atRest (digraph (a .mesh) (a .directions .now)) (lent (start p))) (lengths (a .mesh)) (at (a .states .now)) (a .mesh .count)
 measured p few =
     let a = start p .args in
-    let l = p .before .before .before in
-    let k = l .before .before in
-    let on = isTaken (a .states .now) in
-    let most = k .route-links .result in
-    let few-listed : min (l .list .result) 256 ≡ l .list .result = omega (arith, listing-le (l .list .ensures)) in
-    let over : most ≡ linksBy (a .mesh .count) (a .cut) (underWayOf (a .mesh .count) (a .states .now)) = k .route-links .ensures ∙ ap (linksBy (a .mesh .count) (a .cut)) (k .before .under-way .ensures) in
-    p .split-along .ensures .1 .1 .0
-    ∙ ap (lengthOf _ (λ i. true)) few-listed
-    ∙ length-listed (lengths (a .mesh)) (l .list .ensures)
-    ∙ ap (λ (n : ℕ). lengthOf (lengths (a .mesh)) on (min n 256)) over
+    let k = p .before .before in
+    let over : k .route-links .result ≡ linksBy (a .mesh .count) (a .cut) (underWayOf (a .mesh .count) (a .states .now)) =
+    k .route-links .ensures ∙ ap (linksBy (a .mesh .count) (a .cut)) (k .before .under-way .ensures) in
+    p .split-taken .ensures .1 .1 .0
+    ∙ ap (λ (n : ℕ). lengthOf (lengths (a .mesh)) (isTaken (a .states .now)) (min n 256)) over
     ∙ length-counted (digraph (a .mesh) (a .directions .now)) (lent (start p)) few (lengths (a .mesh)) (a .cut)
 
 cast-under-way : tie.Need-cast-under-way
@@ -97,11 +90,8 @@ under-way-requires c κs = search needs
 route-links-requires : tie.Need-route-links-requires
 route-links-requires c κs = search needs
 
-list-requires : tie.Need-list-requires
-list-requires c κs = search needs
-
-split-along-requires : tie.Need-split-along-requires
-split-along-requires c κs = search needs
+split-taken-requires : tie.Need-split-taken-requires
+split-taken-requires c κs = search needs
 
 record-answer-requires : tie.Need-record-answer-requires
 record-answer-requires c κs = search needs
@@ -144,7 +134,7 @@ returns-2 c =
     record {
       answer = answered d;
       state = λ e. refl;
-      busy = λ e. p .before .before .before .before .before .before .under-way .ensures;
+      busy = λ e. p .before .before .before .under-way .ensures;
       route = λ e. measured p (accepted told .2);
       zeros = λ e. refused-accepted (sym e ∙ told .enum-told .given .1);
     }
@@ -156,8 +146,7 @@ status-spec =
     cast-under-way
     under-way-requires
     route-links-requires
-    list-requires
-    split-along-requires
+    split-taken-requires
     record-answer-requires
     status-answer-requires
     enum-told

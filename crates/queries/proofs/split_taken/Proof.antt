@@ -1,0 +1,40 @@
+-- `queries::split_taken` meets its contract: no link has 0 metres, and the listed links are the taken ones.
+use Prim.Native.Nat.{ℕ, min}
+use mathlib.Core.Path.{_≡_, sym, ap, _∙_}
+use mathlib.Core.Bool.{true}
+use native.Mathlib.Omega.{arith}
+use borrow.Author.Needs.{needs}
+use Rattle.scan.specs.Listed.{listing-le}
+use Rattle.metres.specs.Length.{lengthOf}
+use Rattle.metres.specs.Laws.Length.{length-none, length-listed}
+use Rattle.taken.specs.Taken.{isTaken}
+use Rattle.mesh.specs.WellFormed.{lengths}
+use Rattle.queries.proofs.split_taken.Statement.{statement}
+use Rattle.queries.proofs.split_taken.Tie as tie
+
+split-requires : tie.Need-split-requires
+split-requires c κs = search needs
+
+returns : tie.Need-returns
+returns c =
+    let a = c .before .before .before .args in
+    let e = c .split .ensures in
+    let none : a .links ≡ 0 = c .before .before .if1 .taken in
+    (e .0, (e .1 .0, (sym (ap (λ (n : ℕ). lengthOf (lengths (a .mesh)) (isTaken (a .states .now)) (min n 256)) none ∙ length-none (lengths (a .mesh)) (isTaken (a .states .now))), e .1 .1)))
+
+list-requires : tie.Need-list-requires
+list-requires c κs = search needs
+
+split-along-requires : tie.Need-split-along-requires
+split-along-requires c κs = search needs
+
+returns-2 : tie.Need-returns-2
+returns-2 c =
+    let l = c .before .before .before in
+    let a = l .before .before .before .args in
+    let e = c .split-along .ensures in
+    let few : min (l .list .result) 256 ≡ l .list .result = omega (arith, listing-le (l .list .ensures)) in
+    (e .0, (e .1 .0, (e .1 .1 .0 ∙ ap (lengthOf _ (λ i. true)) few ∙ length-listed (lengths (a .mesh)) (l .list .ensures), e .1 .1 .1)))
+
+pub split-taken-spec : {M : Type 1} → statement M
+split-taken-spec = tie.close (tie.spec split-requires returns list-requires split-along-requires returns-2)
