@@ -11,6 +11,7 @@ pub mod Begin
 pub mod Progress
 pub mod Count
 pub mod Run
+pub mod Order
 pub mod Ever
 pub mod Chain
 pub mod Route

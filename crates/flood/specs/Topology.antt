@@ -5,10 +5,10 @@ use mathlib.Core.List.{List, [], _∷_, _++_}
 use lib.ListN.{length, replicate}
 use lib.Dec.{eqb}
 use Rattle.scan.specs.Entry.{at}
-use Rattle.scan.specs.Total.{count}
+use Rattle.scan.specs.Total.{total, count}
 use Rattle.flood.specs.declared.Route.{Route}
 use Rattle.flood.specs.Digraph.{Digraph, Failure}
-use Rattle.flood.specs.Machine.{underWay, first, some}
+use Rattle.flood.specs.Machine.{underWay, weight, first, some}
 
 -- a digraph with a failure, as arrays. Link i leads from tails[i] to heads[i]; it may be offered if open[i] is its tail
 pub record Topology : Type 0 where
@@ -50,3 +50,7 @@ asRoute p = record { links = p ++ replicate (256 - length p) 0; length = length 
 -- how many of the first links are under way
 unfoldable pub underWayOf : ℕ → List ℕ → ℕ
 underWayOf links states = count (λ i. underWay (at states i)) (min links 256)
+
+-- how many deliveries the first links have had, by their states
+unfoldable pub hadOf : ℕ → List ℕ → ℕ
+hadOf links states = total (λ i. weight (at states i)) (min links 256)

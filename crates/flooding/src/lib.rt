@@ -1,3 +1,3 @@
-// The flood on arrays that are lent: a run, and the route.
+// The floods on arrays that are lent: a run on both wavelengths, and the route of one.
 pub mod running;
 pub mod walk;

@@ -32,12 +32,12 @@ module _ (g : Digraph) (c : Failure) where
   play-append (j ∷ p) q f = play-append p q (step g c j f)
 
   -- a run's loop: at rest it stops, else it makes one delivery more
-  order-stop : (n : ℕ) (f : Flood) → atRest g f ≡ true → order g c n f ≡ []
+  pub order-stop : (n : ℕ) (f : Flood) → atRest g f ≡ true → order g c n f ≡ []
   unfolding order
   order-stop zero f r = refl
   order-stop (suc n) f r = rw r
 
-  order-step : (n : ℕ) (f : Flood) → atRest g f ≡ false → order g c (suc n) f ≡ next g f ∷ order g c n (step g c (next g f) f)
+  pub order-step : (n : ℕ) (f : Flood) → atRest g f ≡ false → order g c (suc n) f ≡ next g f ∷ order g c n (step g c (next g f) f)
   unfolding order
   order-step n f r = rw r
 

@@ -1,0 +1,124 @@
+-- A delivery on one wavelength leaves the other flood as it is, so that any mixed list of deliveries is, on each wavelength, that wavelength's own
+-- list. Assumes nothing.
+use Prim.Native.Nat.{ℕ, _+_}
+use mathlib.Core.Path.{_≡_, refl, ap, _∙_}
+use mathlib.Core.Bool.{Bool, true, false, cond}
+use mathlib.Core.List.{List, [], _∷_, _++_}
+use native.Mathlib.Omega.{arith}
+use lib.ListN.{length}
+use Rattle.scan.specs.Total.{bit}
+use Rattle.flood.specs.Digraph.{Digraph, Failure}
+use Rattle.flood.specs.declared.Flood.{Flood}
+use Rattle.flood.specs.Machine as machine
+use Rattle.wavelengths.specs.declared.Floods.{Floods}
+use Rattle.wavelengths.specs.declared.Wavelength.the-variants.{First, Second}
+use Rattle.wavelengths.specs.Wavelength.{Wavelength, same, on}
+use Rattle.wavelengths.specs.Merge.{Turn, linksOn, busy, accepts, begin, step, play, accepted}
+use Rattle.wavelengths.specs.Laws.Wavelength.{same-is, on-put}
+
+-- ---- a list of deliveries
+
+-- one more, on wavelength w or on the other
+pub links-own : (w : Wavelength) (t : Turn) (ts : List Turn) → same w (t .wavelength) ≡ true → linksOn w (t ∷ ts) ≡ t .link ∷ linksOn w ts
+unfolding linksOn
+links-own w t ts e = rw e
+
+pub links-other : (w : Wavelength) (t : Turn) (ts : List Turn) → same w (t .wavelength) ≡ false → linksOn w (t ∷ ts) ≡ linksOn w ts
+unfolding linksOn
+links-other w t ts e = rw e
+
+pub links-append : (w : Wavelength) (ts us : List Turn) → linksOn w (ts ++ us) ≡ linksOn w ts ++ linksOn w us
+unfolding linksOn
+links-append w [] us = refl
+links-append w (t ∷ ts) us = go (same w (t .wavelength)) refl (links-append w ts us)
+  where
+    go : (b : Bool) → same w (t .wavelength) ≡ b → linksOn w (ts ++ us) ≡ linksOn w ts ++ linksOn w us
+        → linksOn w ((t ∷ ts) ++ us) ≡ linksOn w (t ∷ ts) ++ linksOn w us
+    go true e h = rw e (ap (λ (js : List ℕ). t .link ∷ js) h)
+    go false e h = rw e h
+
+-- every one is on one of them
+pub links-all : (ts : List Turn) → length (linksOn First ts) + length (linksOn Second ts) ≡ length ts
+unfolding linksOn
+links-all [] = refl
+links-all (t ∷ ts) = go (t .wavelength) (links-all ts)
+  where
+    with-turn : Wavelength → Wavelength → List ℕ
+    with-turn w v = cond (same w v) (t .link ∷ linksOn w ts) (linksOn w ts)
+
+    go : (v : Wavelength) → length (linksOn First ts) + length (linksOn Second ts) ≡ length ts → length (with-turn First v) + length (with-turn Second v) ≡ length (t ∷ ts)
+    go First h = omega arith
+    go Second h = omega arith
+
+module _ (g : Wavelength → Digraph) (c : Wavelength → Failure) where
+  -- ---- the failure, and a delivery
+
+  -- on each wavelength the failure is the flood's own
+  pub on-begin : (w : Wavelength) (p : Floods) → on w (begin g c p) ≡ machine.begin (g w) (c w) (on w p)
+  unfolding begin
+  on-begin First p = refl
+  on-begin Second p = refl
+
+  -- on wavelength w a delivery is the flood's own, and on the other it leaves the flood as it is
+  pub step-own : (w : Wavelength) (t : Turn) (p : Floods) → same w (t .wavelength) ≡ true → on w (step g c t p) ≡ machine.step (g w) (c w) (t .link) (on w p)
+  unfolding step
+  step-own w t p e = let v = same-is w (t .wavelength) e in rw (on-put w (t .wavelength) (machine.step (g (t .wavelength)) (c (t .wavelength)) (t .link) (on (t .wavelength) p)) p, e, v)
+
+  pub step-other : (w : Wavelength) (t : Turn) (p : Floods) → same w (t .wavelength) ≡ false → on w (step g c t p) ≡ on w p
+  unfolding step
+  step-other w t p e = rw (on-put w (t .wavelength) (machine.step (g (t .wavelength)) (c (t .wavelength)) (t .link) (on (t .wavelength) p)) p, e)
+
+  -- ---- deliveries in turn
+
+  -- one list after another
+  pub play-append : (ts us : List Turn) (p : Floods) → play g c (ts ++ us) p ≡ play g c us (play g c ts p)
+  unfolding play
+  play-append [] us p = refl
+  play-append (t ∷ ts) us p = play-append ts us (step g c t p)
+
+  pub accepted-append : (ts us : List Turn) (p : Floods) → accepted g c (ts ++ us) p ≡ accepted g c ts p + accepted g c us (play g c ts p)
+  unfolding accepted play
+  accepted-append [] us p = omega arith
+  accepted-append (t ∷ ts) us p = omega (arith, accepted-append ts us (step g c t p))
+
+  -- on each wavelength it is that wavelength's own list
+  pub play-on : (w : Wavelength) (ts : List Turn) (p : Floods) → on w (play g c ts p) ≡ machine.play (g w) (c w) (linksOn w ts) (on w p)
+  unfolding play machine.play linksOn
+  play-on w [] p = refl
+  play-on w (t ∷ ts) p = go (same w (t .wavelength)) refl (play-on w ts (step g c t p))
+    where
+      go : (b : Bool) → same w (t .wavelength) ≡ b → on w (play g c ts (step g c t p)) ≡ machine.play (g w) (c w) (linksOn w ts) (on w (step g c t p))
+          → on w (play g c ts (step g c t p)) ≡ machine.play (g w) (c w) (linksOn w (t ∷ ts)) (on w p)
+      go true e h = rw e (h ∙ ap (machine.play (g w) (c w) (linksOn w ts)) (step-own w t p e))
+      go false e h = rw e (h ∙ ap (machine.play (g w) (c w) (linksOn w ts)) (step-other w t p e))
+
+  -- how many of wavelength w's own list are accepted
+  abbrev pub acceptedOn : Wavelength → List Turn → Floods → ℕ
+  acceptedOn w ts p = machine.accepted (g w) (c w) (linksOn w ts) (on w p)
+
+  accepted-turn : (w : Wavelength) (t : Turn) (ts : List Turn) (p : Floods)
+      → acceptedOn w (t ∷ ts) p ≡ cond {A = ℕ} (same w (t .wavelength)) (bit (accepts g t p)) 0 + acceptedOn w ts (step g c t p)
+  unfolding machine.accepted linksOn accepts busy
+  accepted-turn w t ts p = go (same w (t .wavelength)) refl
+    where
+      go : (b : Bool) → same w (t .wavelength) ≡ b
+          → acceptedOn w (t ∷ ts) p ≡ cond {A = ℕ} (same w (t .wavelength)) (bit (accepts g t p)) 0 + acceptedOn w ts (step g c t p)
+      go true e =
+          let own : Flood = machine.step (g w) (c w) (t .link) (on w p) in
+          rw (e, step-own w t p e)
+          (ap (λ (v : Wavelength). bit (machine.accepts (g v) (t .link) (on v p)) + machine.accepted (g w) (c w) (linksOn w ts) own) (same-is w (t .wavelength) e))
+      go false e = rw (e, step-other w t p e) (omega arith)
+
+  -- the accepted ones are those of the two lists
+  pub accepted-both : (ts : List Turn) (p : Floods) → accepted g c ts p ≡ acceptedOn First ts p + acceptedOn Second ts p
+  unfolding accepted machine.accepted linksOn
+  accepted-both [] p = refl
+  accepted-both (t ∷ ts) p =
+      let h = accepted-both ts (step g c t p) in
+      let a = accepted-turn First t ts p in
+      let b = accepted-turn Second t ts p in
+      omega (arith, share (bit (accepts g t p)) (t .wavelength))
+    where
+      share : (n : ℕ) (w : Wavelength) → cond {A = ℕ} (same First w) n 0 + cond {A = ℕ} (same Second w) n 0 ≡ n
+      share n First = omega arith
+      share n Second = omega arith

@@ -1,0 +1,4 @@
+pub mod Wavelength
+pub mod Merge
+pub mod Laws
+pub mod Guarantees
