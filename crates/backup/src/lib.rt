@@ -1,15 +1,18 @@
-// The flood on the back-up digraph of a mesh under a cut, on arrays that are lent. A mesh is given by its number of links, their directions and
+// The floods on the back-up digraphs of a mesh under a cut, on arrays that are lent. A mesh is given by its number of links, their directions and
 // their ends as numbers, as `mesh::split` stores them; any other numbers are taken as they are.
 use flood::Route;
 use flooding::running::Outcome;
 use topology::entry;
+use wavelengths::Wavelength;
 ghost use mathlib.Core.Path.{_≡_};
 ghost use Rattle.mesh.specs.declared.Mesh.{Mesh};
-ghost use Rattle.flood.specs.Digraph.{cut};
+ghost use Rattle.flood.specs.Digraph.{Digraph, cut};
 ghost use Rattle.flood.specs.Machine.{begin};
 ghost use Rattle.flood.specs.Lent.{flood};
 ghost use Rattle.flooding.specs.Ended.{Ended, followed};
-ghost use Rattle.topology.specs.Backup.{backup};
+ghost use Rattle.wavelengths.specs.declared.Wavelength.{Wavelength};
+ghost use Rattle.wavelengths.specs.Wavelength.{pair};
+ghost use Rattle.topology.specs.Backup.{backupOn};
 ghost use Rattle.pieces.specs.Given.{Given};
 ghost use Rattle.backup.specs.Stepped.{Stepped};
 
@@ -20,8 +23,9 @@ pub struct Acted {
     pub head: u8,
 }
 
-// Link k is cut.
+// Link k is cut: the flood on a wavelength begins.
 pub fn begin(
+    wavelength: Wavelength,
     count: u16,
     directions: &[u8; 256],
     ends: &[u16; 256],
@@ -30,27 +34,21 @@ pub fn begin(
     reached: &mut [bool; 64],
 )
     ensures { λ _. ⌜ ((m : Mesh) → Given m count (now (ends .entry)) k
-        → let g = backup m (record { directions = now (directions .entry) }) in
+        → let g = backupOn wavelength m (record { directions = now (directions .entry) }) in
         flood (now (states .exit)) (now (reached .exit)) ≡ begin g (cut g k) (flood (now (states .entry)) (now (reached .entry)))) ⌝ }
 {
     let mut tails = [0u8; 256];
     let mut heads = [0u8; 256];
-    let mut starts = [0u8; 256];
-    let lost = topology::under_cut(
-        count,
-        directions,
-        ends,
-        &mut tails,
-        &mut heads,
-        &mut starts,
-        k,
-    );
+    topology::lay(wavelength, count, directions, ends, &mut tails, &mut heads);
+    let mut starts = tails;
+    let lost = topology::lose(&tails, &heads, &mut starts, k);
     let x = lost.source;
     delivery::begin(&tails, &starts, states, reached, count as usize, x);
 }
 
-// A delivery on a link under the cut of link k.
+// A delivery on a link and a wavelength under the cut of link k.
 pub fn step(
+    wavelength: Wavelength,
     count: u16,
     directions: &[u8; 256],
     ends: &[u16; 256],
@@ -60,21 +58,14 @@ pub fn step(
     link: u16,
 ) -> Acted
     ensures { λ r. ⌜ ((m : Mesh) → Given m count (now (ends .entry)) k
-        → let g = backup m (record { directions = now (directions .entry) }) in
+        → let g = backupOn wavelength m (record { directions = now (directions .entry) }) in
         Stepped g (cut g k) link (flood (now (states .entry)) (now (reached .entry))) (flood (now (states .exit)) (now (reached .exit))) r) ⌝ }
 {
     let mut tails = [0u8; 256];
     let mut heads = [0u8; 256];
-    let mut starts = [0u8; 256];
-    let lost = topology::under_cut(
-        count,
-        directions,
-        ends,
-        &mut tails,
-        &mut heads,
-        &mut starts,
-        k,
-    );
+    topology::lay(wavelength, count, directions, ends, &mut tails, &mut heads);
+    let mut starts = tails;
+    let lost = topology::lose(&tails, &heads, &mut starts, k);
     let links = count as usize;
     delivery::step(
         &tails,
@@ -93,48 +84,56 @@ pub fn step(
     Acted { state, tail, head }
 }
 
-// Deliveries under the cut of link k on the lowest link under way, until rest or until as many are made as allowed.
+// Deliveries under the cut of link k on the lowest link under way on either wavelength, on wavelength 1 before 2, until nothing is under way on either or
+// until as many are made as allowed. The arcs of wavelength 2 are those of wavelength 1 turned round.
 pub fn run(
     count: u16,
     directions: &[u8; 256],
     ends: &[u16; 256],
     k: u16,
-    states: &mut [u8; 256],
-    reached: &mut [bool; 64],
+    states1: &mut [u8; 256],
+    reached1: &mut [bool; 64],
+    states2: &mut [u8; 256],
+    reached2: &mut [bool; 64],
     allowance: u32,
 ) -> Outcome
     ensures { λ r. ⌜ ((m : Mesh) → Given m count (now (ends .entry)) k
-        → let g = backup m (record { directions = now (directions .entry) }) in
-        Ended g (cut g k) allowance (flood (now (states .entry)) (now (reached .entry))) (flood (now (states .exit)) (now (reached .exit))) (r .made) (r .rest)) ⌝ }
+        → let g : Wavelength → Digraph = λ w. backupOn w m (record { directions = now (directions .entry) }) in
+        Ended g (λ w. cut (g w) k) allowance
+        (pair (flood (now (states1 .entry)) (now (reached1 .entry))) (flood (now (states2 .entry)) (now (reached2 .entry))))
+        (pair (flood (now (states1 .exit)) (now (reached1 .exit))) (flood (now (states2 .exit)) (now (reached2 .exit)))) (r .made) (r .rest)) ⌝ }
 {
     let mut tails = [0u8; 256];
     let mut heads = [0u8; 256];
-    let mut starts = [0u8; 256];
-    let lost = topology::under_cut(
-        count,
-        directions,
-        ends,
-        &mut tails,
-        &mut heads,
-        &mut starts,
-        k,
-    );
-    let links = count as usize;
+    let first = Wavelength::First;
+    topology::lay(first, count, directions, ends, &mut tails, &mut heads);
+    let mut starts1 = tails;
+    let lost1 = topology::lose(&tails, &heads, &mut starts1, k);
+    let mut starts2 = heads;
+    let lost2 = topology::lose(&heads, &tails, &mut starts2, k);
     flooding::running::run(
         &tails,
         &heads,
-        &starts,
-        states,
-        reached,
-        links,
-        lost.source,
-        lost.target,
+        &starts1,
+        states1,
+        reached1,
+        lost1.source,
+        lost1.target,
+        &heads,
+        &tails,
+        &starts2,
+        states2,
+        reached2,
+        lost2.source,
+        lost2.target,
+        count as usize,
         allowance,
     )
 }
 
-// The taken links under the cut of link k from the source on.
+// The taken links on a wavelength under the cut of link k, from the source on.
 pub fn route(
+    wavelength: Wavelength,
     count: u16,
     directions: &[u8; 256],
     ends: &[u16; 256],
@@ -142,19 +141,11 @@ pub fn route(
     states: &[u8; 256],
 ) -> Route
     ensures { λ r. ⌜ ((m : Mesh) → Given m count (now (ends .entry)) k
-        → let g = backup m (record { directions = now (directions .entry) }) in r ≡ followed g (cut g k .source) (now (states .entry))) ⌝ }
+        → let g = backupOn wavelength m (record { directions = now (directions .entry) }) in r ≡ followed g (cut g k .source) (now (states .entry))) ⌝ }
 {
     let mut tails = [0u8; 256];
     let mut heads = [0u8; 256];
-    let mut starts = [0u8; 256];
-    let lost = topology::under_cut(
-        count,
-        directions,
-        ends,
-        &mut tails,
-        &mut heads,
-        &mut starts,
-        k,
-    );
-    flooding::walk::follow(&tails, &heads, states, count as usize, lost.source)
+    topology::lay(wavelength, count, directions, ends, &mut tails, &mut heads);
+    let source = entry(&heads, k);
+    flooding::walk::follow(&tails, &heads, states, count as usize, source)
 }

@@ -1,11 +1,15 @@
-// The calls that change the flood of a session, on the session's pieces: the mesh and the cut by value, the arrays of the plan and of the flood
-// lent. Each takes the mesh apart once and tests the record; a refused call leaves the flood alone.
+// The calls that change the floods of a session, on the session's pieces: the mesh and the cut by value, the arrays of the plan and of the floods
+// lent, those of wavelength 1 and then those of wavelength 2. Each takes the mesh apart once and tests the record; a refused call leaves the floods alone.
 use formed::Cut;
 use formed::cut_link;
 use mesh::Answer;
 use mesh::Mesh;
+use wavelengths::Wavelength;
+use wavelengths::wavelength_of;
 ghost use Rattle.flood.specs.Lent.{flood};
+ghost use Rattle.wavelengths.specs.Wavelength.{pair};
 ghost use Rattle.changes.specs.Changes.{AfterCut, AfterDelivery, AfterRun};
+ghost use Rattle.changes.specs.OneFlood.{OnOneFlood};
 
 // A delivery: its answer, the state that its link has then, and the nodes from which and to which the link leads; zeros beside a refusal.
 pub struct Moved {
@@ -22,17 +26,20 @@ pub struct Made {
     pub rest: bool,
 }
 
-// Link k is cut.
+// Link k is cut: a flood begins on each wavelength.
 pub fn cut(
     mesh: Mesh,
     directions: &[u8; 256],
     before: Cut,
-    states: &mut [u8; 256],
-    reached: &mut [bool; 64],
+    states1: &mut [u8; 256],
+    reached1: &mut [bool; 64],
+    states2: &mut [u8; 256],
+    reached2: &mut [bool; 64],
     link: u16,
 ) -> Answer
-    ensures { λ r. ⌜ AfterCut mesh (now (directions .entry)) before (flood (now (states .entry)) (now (reached .entry))) link
-        (flood (now (states .exit)) (now (reached .exit))) r ⌝ }
+    ensures { λ r. ⌜ AfterCut mesh (now (directions .entry)) before
+        (pair (flood (now (states1 .entry)) (now (reached1 .entry))) (flood (now (states2 .entry)) (now (reached2 .entry)))) link
+        (pair (flood (now (states1 .exit)) (now (reached1 .exit))) (flood (now (states2 .exit)) (now (reached2 .exit)))) r ⌝ }
 {
     let mut ends = [0u16; 256];
     let zeros = mesh::split(mesh, &mut ends);
@@ -43,42 +50,52 @@ pub fn cut(
         &ends,
         directions,
         before,
-        states,
-        reached,
+        states1,
+        reached1,
+        states2,
+        reached2,
     );
     let answer = refusals::cut_answer(tested, mesh.count, before, link);
     let Answer::Accepted = answer else {
         return answer;
     };
-    backup::begin(mesh.count, directions, &ends, link, states, reached);
+    backup::begin(
+        Wavelength::First,
+        mesh.count,
+        directions,
+        &ends,
+        link,
+        states1,
+        reached1,
+    );
+    backup::begin(
+        Wavelength::Second,
+        mesh.count,
+        directions,
+        &ends,
+        link,
+        states2,
+        reached2,
+    );
     answer
 }
 
-// A delivery on a link.
-pub fn deliver(
-    mesh: Mesh,
+// A delivery on a link and a wavelength whose flood is lent, after the answer to the record.
+fn deliver_on(
+    tested: Answer,
+    count: u16,
     directions: &[u8; 256],
+    ends: &[u16; 256],
     cut: Cut,
     states: &mut [u8; 256],
     reached: &mut [bool; 64],
     link: u16,
+    wavelength: u8,
 ) -> Moved
-    ensures { λ r. ⌜ AfterDelivery mesh (now (directions .entry)) cut (flood (now (states .entry)) (now (reached .entry))) link
+    ensures { λ r. ⌜ OnOneFlood tested count (now (directions .entry)) (now (ends .entry)) cut (flood (now (states .entry)) (now (reached .entry))) link wavelength
         (flood (now (states .exit)) (now (reached .exit))) r ⌝ }
 {
-    let mut ends = [0u16; 256];
-    let zeros = mesh::split(mesh, &mut ends);
-    let tested = formed::record_answer(
-        mesh.nodes,
-        mesh.count,
-        zeros,
-        &ends,
-        directions,
-        cut,
-        states,
-        reached,
-    );
-    let answer = refusals::deliver_answer(tested, mesh.count, cut, states, link);
+    let answer = refusals::deliver_answer(tested, count, cut, states, link, wavelength);
     let Answer::Accepted = answer else {
         return Moved {
             answer,
@@ -88,9 +105,10 @@ pub fn deliver(
         };
     };
     let l = backup::step(
-        mesh.count,
+        wavelength_of(wavelength),
+        count,
         directions,
-        &ends,
+        ends,
         cut_link(cut),
         states,
         reached,
@@ -104,17 +122,21 @@ pub fn deliver(
     }
 }
 
-// Deliveries on the lowest link under way, until rest or until the allowed number is used.
-pub fn run(
+// A delivery on a link and a wavelength.
+pub fn deliver(
     mesh: Mesh,
     directions: &[u8; 256],
     cut: Cut,
-    states: &mut [u8; 256],
-    reached: &mut [bool; 64],
-    allowance: u32,
-) -> Made
-    ensures { λ r. ⌜ AfterRun mesh (now (directions .entry)) cut (flood (now (states .entry)) (now (reached .entry))) allowance
-        (flood (now (states .exit)) (now (reached .exit))) r ⌝ }
+    states1: &mut [u8; 256],
+    reached1: &mut [bool; 64],
+    states2: &mut [u8; 256],
+    reached2: &mut [bool; 64],
+    link: u16,
+    wavelength: u8,
+) -> Moved
+    ensures { λ r. ⌜ AfterDelivery mesh (now (directions .entry)) cut
+        (pair (flood (now (states1 .entry)) (now (reached1 .entry))) (flood (now (states2 .entry)) (now (reached2 .entry)))) link wavelength
+        (pair (flood (now (states1 .exit)) (now (reached1 .exit))) (flood (now (states2 .exit)) (now (reached2 .exit)))) r ⌝ }
 {
     let mut ends = [0u16; 256];
     let zeros = mesh::split(mesh, &mut ends);
@@ -125,8 +147,66 @@ pub fn run(
         &ends,
         directions,
         cut,
-        states,
-        reached,
+        states1,
+        reached1,
+        states2,
+        reached2,
+    );
+    match wavelength_of(wavelength) {
+        Wavelength::First => deliver_on(
+            tested,
+            mesh.count,
+            directions,
+            &ends,
+            cut,
+            states1,
+            reached1,
+            link,
+            wavelength,
+        ),
+        Wavelength::Second => deliver_on(
+            tested,
+            mesh.count,
+            directions,
+            &ends,
+            cut,
+            states2,
+            reached2,
+            link,
+            wavelength,
+        ),
+    }
+}
+
+// Deliveries on the lowest link under way on either wavelength, on wavelength 1 before 2, until nothing is under way on either or until the allowed number
+// is used.
+pub fn run(
+    mesh: Mesh,
+    directions: &[u8; 256],
+    cut: Cut,
+    states1: &mut [u8; 256],
+    reached1: &mut [bool; 64],
+    states2: &mut [u8; 256],
+    reached2: &mut [bool; 64],
+    allowance: u32,
+) -> Made
+    ensures { λ r. ⌜ AfterRun mesh (now (directions .entry)) cut
+        (pair (flood (now (states1 .entry)) (now (reached1 .entry))) (flood (now (states2 .entry)) (now (reached2 .entry)))) allowance
+        (pair (flood (now (states1 .exit)) (now (reached1 .exit))) (flood (now (states2 .exit)) (now (reached2 .exit)))) r ⌝ }
+{
+    let mut ends = [0u16; 256];
+    let zeros = mesh::split(mesh, &mut ends);
+    let tested = formed::record_answer(
+        mesh.nodes,
+        mesh.count,
+        zeros,
+        &ends,
+        directions,
+        cut,
+        states1,
+        reached1,
+        states2,
+        reached2,
     );
     let answer = refusals::run_answer(tested, cut);
     let Answer::Accepted = answer else {
@@ -141,8 +221,10 @@ pub fn run(
         directions,
         &ends,
         cut_link(cut),
-        states,
-        reached,
+        states1,
+        reached1,
+        states2,
+        reached2,
         allowance,
     );
     Made {

@@ -9,6 +9,7 @@ use Rattle.mesh.specs.declared.Answer.{Answer}
 use Rattle.mesh.specs.declared.Answer.the-variants.{Accepted}
 use Rattle.mesh.specs.Mesh.{must, andThen, meshAnswer}
 use Rattle.flood.specs.declared.Flood.{Flood}
+use Rattle.wavelengths.specs.declared.Floods.{Floods}
 use Rattle.formed.specs.declared.Cut.{Cut}
 use Rattle.formed.specs.declared.Cut.the-variants as cut
 
@@ -34,6 +35,10 @@ floodFault m f = overflows (m .count) 4 (f .states) || strays (m .nodes) (f .rea
 unfoldable pub startAnswer : Mesh → Plan → Answer
 startAnswer m p = andThen (meshAnswer m) (must (not (planFault m p)) 13 0 Accepted)
 
+-- on either wavelength
+unfoldable pub floodsFault : Mesh → Floods → Bool
+floodsFault m f = floodFault m (f .first) || floodFault m (f .second)
+
 -- a session's record, by its pieces: mesh, 13
-unfoldable pub recordAnswer : Mesh → Plan → Cut → Flood → Answer
-recordAnswer m p c f = andThen (startAnswer m p) (must (not (misplaced (m .count) c || floodFault m f)) 13 0 Accepted)
+unfoldable pub recordAnswer : Mesh → Plan → Cut → Floods → Answer
+recordAnswer m p c f = andThen (startAnswer m p) (must (not (misplaced (m .count) c || floodsFault m f)) 13 0 Accepted)

@@ -10,6 +10,9 @@ use Rattle.mesh.specs.declared.Answer.the-variants.{Accepted, Refused}
 use Rattle.mesh.specs.Mesh.{meshAnswer}
 use Rattle.mesh.specs.WellFormed.{WellFormed}
 use Rattle.flood.specs.declared.Flood.{Flood}
+use Rattle.wavelengths.specs.declared.Floods.{Floods}
+use Rattle.wavelengths.specs.declared.Wavelength.{Wavelength}
+use Rattle.wavelengths.specs.Wavelength.{on}
 use Rattle.formed.specs.declared.Cut.{Cut}
 use Rattle.formed.specs.declared.Cut.the-variants as cuts
 
@@ -31,12 +34,12 @@ pub record FloodFormed (m : Mesh) (f : Flood) : Type 0 where
   pub states : Bounded (m .count) 4 (f .states)
   pub reached : (v : ℕ) → v < 64 → has (f .reached) v ≡ true → v < m .nodes
 
--- a well-formed record of a session with these pieces
-pub record Formed (m : Mesh) (p : Plan) (c : Cut) (f : Flood) : Type 0 where
+-- a well-formed record of a session with these pieces: link states and reached nodes are held per wavelength (02)
+pub record Formed (m : Mesh) (p : Plan) (c : Cut) (f : Floods) : Type 0 where
   pub mesh : WellFormed m
   pub plan : PlanFormed m p
   pub cut : CutFormed m c
-  pub flood : FloodFormed m f
+  pub flood : (w : Wavelength) → FloodFormed m (on w f)
 
 -- a refusal of a mesh and of what stands on it, by number and place: the mesh's own, or 13 at 0 where the mesh is accepted and F does not hold
 pub data Refusal (m : Mesh) (F : Type 0) : ℕ → ℕ → Type 0 where

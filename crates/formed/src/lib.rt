@@ -2,7 +2,9 @@
 ghost use mathlib.Core.Path.{_≡_};
 ghost use Rattle.mesh.specs.Parts.{partsAnswer};
 ghost use Rattle.formed.specs.Formed.{cutLink, misplaced};
-ghost use Rattle.formed.specs.Pieces.{illFormed, recordAfter};
+ghost use Rattle.formed.specs.Pieces.{badFlood, illFormed, recordAfter};
+ghost use Rattle.flood.specs.Lent.{flood};
+ghost use Rattle.wavelengths.specs.Wavelength.{pair};
 use faults::Kind;
 use faults::has_bad_entry;
 use faults::has_stray;
@@ -34,25 +36,35 @@ fn is_misplaced(links: u16, cut: Cut) -> bool
     }
 }
 
-// Whether the plan, the cut or the flood is ill formed, with so many nodes and links.
+// Whether the flood on a wavelength is ill formed, with so many nodes and links.
+fn is_bad_flood<'a>(nodes: u8, count: u16, states: &'a [u8; 256], reached: &'a [bool; 64]) -> bool
+    ensures { λ r. ⌜ r ≡ badFlood nodes count (flood (now (states .entry)) (now (reached .entry))) ⌝ }
+{
+    has_bad_entry(Kind::State, count, states) | has_stray(nodes, reached)
+}
+
+// Whether the plan, the cut or a flood is ill formed, with so many nodes and links.
 fn is_ill_formed<'a>(
     nodes: u8,
     count: u16,
     directions: &[u8; 256],
     cut: Cut,
-    states: &'a [u8; 256],
-    reached: &'a [bool; 64],
+    states1: &'a [u8; 256],
+    reached1: &'a [bool; 64],
+    states2: &'a [u8; 256],
+    reached2: &'a [bool; 64],
 ) -> bool
-    ensures { λ r. ⌜ r ≡ illFormed nodes count (now (directions .entry)) cut (now (states .entry)) (now (reached .entry)) ⌝ }
+    ensures { λ r. ⌜ r ≡ illFormed nodes count (now (directions .entry)) cut
+        (pair (flood (now (states1 .entry)) (now (reached1 .entry))) (flood (now (states2 .entry)) (now (reached2 .entry)))) ⌝ }
 {
     has_bad_entry(Kind::Direction, count, directions)
         | is_misplaced(count, cut)
-        | has_bad_entry(Kind::State, count, states)
-        | has_stray(nodes, reached)
+        | is_bad_flood(nodes, count, states1, reached1)
+        | is_bad_flood(nodes, count, states2, reached2)
 }
 
-// The record of a session with these pieces: N, L, whether the mesh's entries past the last link are zero, the ends of its links, and the rest.
-// The mesh checks, then 13.
+// The record of a session with these pieces: N, L, whether the mesh's entries past the last link are zero, the ends of its links, and the rest, the states
+// and reached nodes of wavelength 1 and then those of wavelength 2. The mesh checks, then 13.
 pub fn record_answer<'a>(
     nodes: u8,
     count: u16,
@@ -60,17 +72,28 @@ pub fn record_answer<'a>(
     ends: &[u16; 256],
     directions: &[u8; 256],
     cut: Cut,
-    states: &'a [u8; 256],
-    reached: &'a [bool; 64],
+    states1: &'a [u8; 256],
+    reached1: &'a [bool; 64],
+    states2: &'a [u8; 256],
+    reached2: &'a [bool; 64],
 ) -> Answer
-    ensures { λ r. ⌜ r ≡ recordAfter (partsAnswer nodes count zeros (now (ends .entry)))
-        nodes count (now (directions .entry)) cut (now (states .entry)) (now (reached .entry)) ⌝ }
+    ensures { λ r. ⌜ r ≡ recordAfter (partsAnswer nodes count zeros (now (ends .entry))) nodes count (now (directions .entry)) cut
+        (pair (flood (now (states1 .entry)) (now (reached1 .entry))) (flood (now (states2 .entry)) (now (reached2 .entry)))) ⌝ }
 {
     let tested = mesh::parts_answer(nodes, count, zeros, ends);
     let Answer::Accepted = tested else {
         return tested;
     };
-    if is_ill_formed(nodes, count, directions, cut, states, reached) {
+    if is_ill_formed(
+        nodes,
+        count,
+        directions,
+        cut,
+        states1,
+        reached1,
+        states2,
+        reached2,
+    ) {
         return Answer::Refused {
             number: 13,
             place: 0,

@@ -14,11 +14,12 @@ pub fn cut(s: &mut Session, link: u16) -> Answer
     changed.answer
 }
 
-// A delivery on a link.
-pub fn deliver(s: &mut Session, link: u16) -> Delivered
-    ensures { λ r. ⌜ (now (s .exit) ≡ afterDelivery (now (s .entry)) link .session) × (r ≡ afterDelivery (now (s .entry)) link .answer) ⌝ }
+// A delivery on a link and a wavelength.
+pub fn deliver(s: &mut Session, link: u16, wavelength: u8) -> Delivered
+    ensures { λ r. ⌜ (now (s .exit) ≡ afterDelivery (now (s .entry)) link wavelength .session)
+        × (r ≡ afterDelivery (now (s .entry)) link wavelength .answer) ⌝ }
 {
-    let delivery = Session::deliver(*s, link);
+    let delivery = Session::deliver(*s, link, wavelength);
     *s = delivery.session;
     delivery.answer
 }

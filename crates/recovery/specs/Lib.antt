@@ -1,3 +1,4 @@
+pub mod Session
 pub mod Formed
 pub mod Calls
 pub mod Pieces

@@ -17,11 +17,13 @@ use mesh::Plan;
 use metres::Length;
 use queries::Told;
 
+// Mesh, plan, the cut link or none, and the flood on wavelength 1 and on wavelength 2.
 pub struct Session {
     pub mesh: Mesh,
     pub plan: Plan,
     pub cut: Cut,
-    pub flood: Flood,
+    pub first: Flood,
+    pub second: Flood,
 }
 
 // What start, cut and mend give.
@@ -54,7 +56,7 @@ pub struct Run {
     pub report: Report,
 }
 
-// A link's state, how many links are under way, and the route length, or a refusal.
+// A link's state on a wavelength, how many links are under way on it, and its route length, or a refusal.
 pub enum Status {
     Link {
         state: u8,
@@ -67,7 +69,7 @@ pub enum Status {
     },
 }
 
-// What the route query gives: the route's links from x on, none on a refusal.
+// What the route query gives: the links of a wavelength's route from its x on, none on a refusal.
 pub struct Routed {
     pub route: Route,
     pub answer: Answer,
@@ -79,17 +81,19 @@ impl Session {
 
     pub const MOST_LINKS: usize = 256;
 
-    // A fresh session: no cut, all links quiet and no node reached. Tests nothing: `start` is the call that does.
+    // A fresh session: no cut, and on each wavelength all links quiet and no node reached. Tests nothing: `start` is the call that does.
     fn fresh(mesh: Mesh, plan: Plan) -> Session
         ensures { λ r. ⌜ r ≡ freshOn mesh plan ⌝ }
     {
-        let flood = quiet();
+        let first = quiet();
+        let second = quiet();
         let cut = Cut::Nothing;
         Session {
             mesh,
             plan,
             cut,
-            flood,
+            first,
+            second,
         }
     }
 
@@ -97,9 +101,18 @@ impl Session {
     pub fn start(mesh: Mesh, plan: Plan) -> Change
         ensures { λ r. ⌜ r ≡ started mesh plan ⌝ }
     {
-        let flood = quiet();
+        let first = quiet();
+        let second = quiet();
         let cut = Cut::Nothing;
-        let answer = queries::tested(mesh, &plan.directions, cut, &flood.states, &flood.reached);
+        let answer = queries::tested(
+            mesh,
+            &plan.directions,
+            cut,
+            &first.states,
+            &first.reached,
+            &second.states,
+            &second.reached,
+        );
         let Answer::Accepted = answer else {
             let session = Session::fresh(mesh::zero_mesh(), zero_plan());
             return Change { session, answer };
@@ -108,142 +121,182 @@ impl Session {
             mesh,
             plan,
             cut,
-            flood,
+            first,
+            second,
         };
         Change { session, answer }
     }
 
-    // Link k is cut.
+    // Link k is cut: a flood begins on each wavelength.
     pub fn cut(self, link: u16) -> Change
         ensures { λ r. ⌜ r ≡ afterCut self link ⌝ }
     {
         let mesh = self.mesh;
         let plan = self.plan;
         let before = self.cut;
-        let mut flood = self.flood;
-        let mut reached = flood.reached;
+        let mut first = self.first;
+        let mut second = self.second;
+        let mut reached1 = first.reached;
+        let mut reached2 = second.reached;
         let answer = changes::cut(
             mesh,
             &plan.directions,
             before,
-            &mut flood.states,
-            &mut reached,
+            &mut first.states,
+            &mut reached1,
+            &mut second.states,
+            &mut reached2,
             link,
         );
         let cut = cut_after(answer, before, Cut::Link(link));
-        flood.reached = reached;
+        first.reached = reached1;
+        second.reached = reached2;
         let session = Session {
             mesh,
             plan,
             cut,
-            flood,
+            first,
+            second,
         };
         Change { session, answer }
     }
 
-    // A delivery on a link.
-    pub fn deliver(mut self, link: u16) -> Delivery
-        ensures { λ r. ⌜ r ≡ afterDelivery self link ⌝ }
+    // A delivery on a link and a wavelength.
+    pub fn deliver(mut self, link: u16, wavelength: u8) -> Delivery
+        ensures { λ r. ⌜ r ≡ afterDelivery self link wavelength ⌝ }
     {
         let mesh = self.mesh;
         let plan = self.plan;
         let cut = self.cut;
-        let mut flood = self.flood;
-        let mut reached = flood.reached;
+        let mut first = self.first;
+        let mut second = self.second;
+        let mut reached1 = first.reached;
+        let mut reached2 = second.reached;
         let moved = changes::deliver(
             mesh,
             &plan.directions,
             cut,
-            &mut flood.states,
-            &mut reached,
+            &mut first.states,
+            &mut reached1,
+            &mut second.states,
+            &mut reached2,
             link,
+            wavelength,
         );
         let answer = delivery_answer(moved);
-        flood.reached = reached;
-        self.flood = flood;
+        first.reached = reached1;
+        second.reached = reached2;
+        self.first = first;
+        self.second = second;
         let session = self;
         Delivery { session, answer }
     }
 
-    // Deliveries on the lowest link under way, until rest or until the allowed number is used.
+    // Deliveries on the lowest link under way on either wavelength, on wavelength 1 before 2, until nothing is under way on either or until the allowed
+    // number is used.
     pub fn run(mut self, allowance: u32) -> Run
         ensures { λ r. ⌜ r ≡ afterRun self allowance ⌝ }
     {
         let mesh = self.mesh;
         let plan = self.plan;
         let cut = self.cut;
-        let mut flood = self.flood;
-        let mut reached = flood.reached;
+        let mut first = self.first;
+        let mut second = self.second;
+        let mut reached1 = first.reached;
+        let mut reached2 = second.reached;
         let made = changes::run(
             mesh,
             &plan.directions,
             cut,
-            &mut flood.states,
-            &mut reached,
+            &mut first.states,
+            &mut reached1,
+            &mut second.states,
+            &mut reached2,
             allowance,
         );
         let report = run_report(made);
-        flood.reached = reached;
-        self.flood = flood;
+        first.reached = reached1;
+        second.reached = reached2;
+        self.first = first;
+        self.second = second;
         let session = self;
         Run { session, report }
     }
 
-    // The cut link is mended, at rest: a fresh session on the same plan.
+    // The cut link is mended, at rest on both wavelengths: a fresh session on the same plan.
     pub fn mend(self, link: u16) -> Change
         ensures { λ r. ⌜ r ≡ afterMend self link ⌝ }
     {
         let mesh = self.mesh;
         let plan = self.plan;
         let before = self.cut;
-        let f = self.flood;
+        let f = self.first;
+        let g = self.second;
         let answer = queries::mend_answer(
             mesh,
             &plan.directions,
             before,
             &f.states,
             &f.reached,
+            &g.states,
+            &g.reached,
             link,
         );
         let cut = cut_after(answer, before, Cut::Nothing);
-        let flood = flood_after(answer, f);
+        let first = flood_after(answer, f);
+        let second = flood_after(answer, g);
         let session = Session {
             mesh,
             plan,
             cut,
-            flood,
+            first,
+            second,
         };
         Change { session, answer }
     }
 
-    // A link's state, how many links are under way, and the route length.
-    pub fn status(self, link: u16) -> Status
-        ensures { λ r. ⌜ r ≡ statusOf self link ⌝ }
+    // A link's state on a wavelength, how many links are under way on it, and its route length.
+    pub fn status(self, link: u16, wavelength: u8) -> Status
+        ensures { λ r. ⌜ r ≡ statusOf self link wavelength ⌝ }
     {
         let mesh = self.mesh;
         let plan = self.plan;
         let cut = self.cut;
-        let flood = self.flood;
+        let first = self.first;
+        let second = self.second;
         let told = queries::status(
             mesh,
             &plan.directions,
             cut,
-            &flood.states,
-            &flood.reached,
+            &first.states,
+            &first.reached,
+            &second.states,
+            &second.reached,
             link,
+            wavelength,
         );
         link_status(told)
     }
 
-    // The route's links from x on, at rest under a cut.
-    pub fn route(self) -> Routed
-        ensures { λ r. ⌜ r ≡ routed self ⌝ }
+    // The links of a wavelength's route from its x on, where a cut stands and nothing is under way on that wavelength.
+    pub fn route(self, wavelength: u8) -> Routed
+        ensures { λ r. ⌜ r ≡ routed self wavelength ⌝ }
     {
         let mesh = self.mesh;
         let plan = self.plan;
         let cut = self.cut;
-        let flood = self.flood;
-        let found = queries::route(mesh, &plan.directions, cut, &flood.states, &flood.reached);
+        let first = self.first;
+        let second = self.second;
+        let found = queries::route(
+            mesh,
+            &plan.directions,
+            cut,
+            &first.states,
+            &first.reached,
+            &second.states,
+            &second.reached,
+            wavelength,
+        );
         let route = found.route;
         let answer = found.answer;
         Routed { route, answer }
@@ -273,7 +326,7 @@ fn cut_after(answer: Answer, before: Cut, after: Cut) -> Cut
     }
 }
 
-// The flood after a mend that answers so.
+// The flood on a wavelength after a mend that answers so.
 fn flood_after(answer: Answer, before: Flood) -> Flood
     ensures { λ r. ⌜ r ≡ chosen answer before (fresh 256 64) ⌝ }
 {

@@ -1,10 +1,11 @@
 // The refusals of each call in 01's order, on what they look at. `tested` is the answer to the record: its refusal comes first.
 use formed::Cut;
 use mesh::Answer;
+use wavelengths::is_wavelength;
 ghost use mathlib.Core.Path.{_≡_};
 ghost use Rattle.scan.specs.Entry.{at};
 ghost use Rattle.flood.specs.Machine.{underWay};
-ghost use Rattle.refusals.specs.Refusals.{isCut, standing, resting, cutAnswer, deliverAnswer, runAnswer, mendAnswer, statusAnswer};
+ghost use Rattle.refusals.specs.Refusals.{isCut, standing, resting, linkAnswer, cutAnswer, deliverAnswer, runAnswer, routeAnswer, mendAnswer, statusAnswer};
 
 fn refused(number: u8, place: u16) -> Answer
     ensures { λ r. ⌜ r ≡ Answer.Refused number place ⌝ }
@@ -54,9 +55,9 @@ fn is_busy(states: &[u8], k: u16) -> bool
     }
 }
 
-// Status: 12.
-pub fn status_answer(tested: Answer, count: u16, link: u16) -> Answer
-    ensures { λ r. ⌜ r ≡ statusAnswer tested count link ⌝ }
+// Every call that names a link: 12.
+fn link_answer(tested: Answer, count: u16, link: u16) -> Answer
+    ensures { λ r. ⌜ r ≡ linkAnswer tested count link ⌝ }
 {
     let Answer::Accepted = tested else {
         return tested;
@@ -67,11 +68,25 @@ pub fn status_answer(tested: Answer, count: u16, link: u16) -> Answer
     Answer::Accepted
 }
 
+// Status: 12, 14.
+pub fn status_answer(tested: Answer, count: u16, link: u16, wavelength: u8) -> Answer
+    ensures { λ r. ⌜ r ≡ statusAnswer tested count link wavelength ⌝ }
+{
+    let a = link_answer(tested, count, link);
+    let Answer::Accepted = a else {
+        return a;
+    };
+    if is_wavelength(wavelength) {
+        return Answer::Accepted;
+    }
+    refused(14, 0)
+}
+
 // Cut: 12, 22.
 pub fn cut_answer(tested: Answer, count: u16, cut: Cut, link: u16) -> Answer
     ensures { λ r. ⌜ r ≡ cutAnswer tested count cut link ⌝ }
 {
-    let a = status_answer(tested, count, link);
+    let a = link_answer(tested, count, link);
     let Answer::Accepted = a else {
         return a;
     };
@@ -81,11 +96,18 @@ pub fn cut_answer(tested: Answer, count: u16, cut: Cut, link: u16) -> Answer
     Answer::Accepted
 }
 
-// Delivery: 12, 23, 24.
-pub fn deliver_answer(tested: Answer, count: u16, cut: Cut, states: &[u8], link: u16) -> Answer
-    ensures { λ r. ⌜ r ≡ deliverAnswer tested count cut (now (states .entry)) link ⌝ }
+// Delivery, on a wavelength with these states: 12, 14, 23, 24.
+pub fn deliver_answer(
+    tested: Answer,
+    count: u16,
+    cut: Cut,
+    states: &[u8],
+    link: u16,
+    wavelength: u8,
+) -> Answer
+    ensures { λ r. ⌜ r ≡ deliverAnswer tested count cut (now (states .entry)) link wavelength ⌝ }
 {
-    let a = status_answer(tested, count, link);
+    let a = status_answer(tested, count, link, wavelength);
     let Answer::Accepted = a else {
         return a;
     };
@@ -111,11 +133,27 @@ pub fn run_answer(tested: Answer, cut: Cut) -> Answer
     refused(23, 0)
 }
 
+// The route query: 14, 23, with the place 0.
+pub fn route_answer(tested: Answer, cut: Cut, wavelength: u8) -> Answer
+    ensures { λ r. ⌜ r ≡ routeAnswer tested cut wavelength ⌝ }
+{
+    let Answer::Accepted = tested else {
+        return tested;
+    };
+    if !is_wavelength(wavelength) {
+        return refused(14, 0);
+    }
+    if is_standing(cut) {
+        return Answer::Accepted;
+    }
+    refused(23, 0)
+}
+
 // Mend: 12, 23, 26, 25.
 pub fn mend_answer(tested: Answer, count: u16, cut: Cut, rest: bool, link: u16) -> Answer
     ensures { λ r. ⌜ r ≡ mendAnswer tested count cut rest link ⌝ }
 {
-    let a = status_answer(tested, count, link);
+    let a = link_answer(tested, count, link);
     let Answer::Accepted = a else {
         return a;
     };

@@ -1,4 +1,4 @@
--- The arrays of back-up arcs, by the ends of the links as numbers and their directions. Definitions only.
+-- The arrays of a wavelength's back-up arcs, by the ends of the links as numbers and their directions. Definitions only.
 use Prim.Native.Nat.{ℕ, min}
 use mathlib.Core.Bool.{cond}
 use mathlib.Core.List.{List}
@@ -6,17 +6,19 @@ use lib.Dec.{eqb}
 use Rattle.scan.specs.Entry.{at}
 use Rattle.scan.specs.Fill.{filled}
 use Rattle.ends.specs.Ends.{lowOf, highOf}
+use Rattle.wavelengths.specs.declared.Wavelength.{Wavelength}
+use Rattle.wavelengths.specs.Wavelength.{each}
 
--- where the back-up arc of a link with the ends e and the direction d starts, and where it ends
-abbrev pub tailBy : ℕ → ℕ → ℕ
-tailBy e d = cond (eqb d 0) (highOf e) (lowOf e)
+-- where the back-up arc of a link with the ends e and the direction d starts, and where it ends: on wavelength 2 it is turned round
+abbrev pub tailBy : Wavelength → ℕ → ℕ → ℕ
+tailBy w e d = each (cond (eqb d 0) (highOf e) (lowOf e)) (cond (eqb d 0) (lowOf e) (highOf e)) w
 
-abbrev pub headBy : ℕ → ℕ → ℕ
-headBy e d = cond (eqb d 0) (lowOf e) (highOf e)
+abbrev pub headBy : Wavelength → ℕ → ℕ → ℕ
+headBy w e d = each (cond (eqb d 0) (lowOf e) (highOf e)) (cond (eqb d 0) (highOf e) (lowOf e)) w
 
 -- an array of 256 entries whose first become the tails, or the heads
-abbrev pub tailsInto : ℕ → List ℕ → List ℕ → List ℕ → List ℕ
-tailsInto links ends directions l = filled (λ i. tailBy (at ends i) (at directions i)) (min links 256) l
+abbrev pub tailsInto : Wavelength → ℕ → List ℕ → List ℕ → List ℕ → List ℕ
+tailsInto w links ends directions l = filled (λ i. tailBy w (at ends i) (at directions i)) (min links 256) l
 
-abbrev pub headsInto : ℕ → List ℕ → List ℕ → List ℕ → List ℕ
-headsInto links ends directions l = filled (λ i. headBy (at ends i) (at directions i)) (min links 256) l
+abbrev pub headsInto : Wavelength → ℕ → List ℕ → List ℕ → List ℕ → List ℕ
+headsInto w links ends directions l = filled (λ i. headBy w (at ends i) (at directions i)) (min links 256) l

@@ -1,9 +1,11 @@
-// The back-up digraph of a mesh under a plan, with the failure of one link, on arrays that are lent. A mesh's links are given by their ends as
+// The back-up digraph of a wavelength under a plan, with the failure of one link, on arrays that are lent. A mesh's links are given by their ends as
 // numbers, as `mesh::split` stores them.
 use states::links_of;
+use wavelengths::Wavelength;
 ghost use mathlib.Core.Path.{_≡_};
 ghost use lib.ListN.{set};
 ghost use Rattle.scan.specs.Entry.{at};
+ghost use Rattle.wavelengths.specs.declared.Wavelength.the-variants.{First};
 ghost use Rattle.topology.specs.Arrays.{tailBy, headBy, tailsInto, headsInto};
 
 // The start of a link that may not be offered: no node has this number.
@@ -15,9 +17,9 @@ pub struct Stream {
     pub target: u8,
 }
 
-// Where the back-up arc of a link with the ends e starts, and where it ends.
+// Where the back-up arc of a link with the ends e starts on wavelength 1, and where it ends.
 fn tail_of(e: u16, direction: u8) -> u8
-    ensures { λ r. ⌜ r ≡ tailBy e direction ⌝ }
+    ensures { λ r. ⌜ r ≡ tailBy First e direction ⌝ }
 {
     if direction == 0 {
         (e % 256) as u8
@@ -27,7 +29,7 @@ fn tail_of(e: u16, direction: u8) -> u8
 }
 
 fn head_of(e: u16, direction: u8) -> u8
-    ensures { λ r. ⌜ r ≡ headBy e direction ⌝ }
+    ensures { λ r. ⌜ r ≡ headBy First e direction ⌝ }
 {
     if direction != 0 {
         (e % 256) as u8
@@ -36,18 +38,16 @@ fn head_of(e: u16, direction: u8) -> u8
     }
 }
 
-// Stores where each back-up arc starts, in `tails` and `starts`, and where it ends; the entries past the last link stay.
+// Stores where each back-up arc of wavelength 1 starts, and where it ends; the entries past the last link stay.
 fn orient(
     count: u16,
     directions: &[u8; 256],
     ends: &[u16; 256],
     tails: &mut [u8; 256],
     heads: &mut [u8; 256],
-    starts: &mut [u8; 256],
 )
-    ensures tails { λ _. ⌜ now (tails .exit) ≡ tailsInto count (now (ends .entry)) (now (directions .entry)) (now (tails .entry)) ⌝ }
-    ensures heads { λ _. ⌜ now (heads .exit) ≡ headsInto count (now (ends .entry)) (now (directions .entry)) (now (heads .entry)) ⌝ }
-    ensures starts { λ _. ⌜ now (starts .exit) ≡ tailsInto count (now (ends .entry)) (now (directions .entry)) (now (starts .entry)) ⌝ }
+    ensures tails { λ _. ⌜ now (tails .exit) ≡ tailsInto First count (now (ends .entry)) (now (directions .entry)) (now (tails .entry)) ⌝ }
+    ensures heads { λ _. ⌜ now (heads .exit) ≡ headsInto First count (now (ends .entry)) (now (directions .entry)) (now (heads .entry)) ⌝ }
 {
     let links = links_of(count as usize);
     let mut i: usize = 0;
@@ -56,8 +56,25 @@ fn orient(
         let d = directions[i];
         tails[i] = tail_of(e, d);
         heads[i] = head_of(e, d);
-        starts[i] = tail_of(e, d);
         i += 1;
+    }
+}
+
+// The back-up arcs of a wavelength, for any ends and any directions: stores where each starts, and where it ends; the entries past the last link stay.
+pub fn lay(
+    wavelength: Wavelength,
+    count: u16,
+    directions: &[u8; 256],
+    ends: &[u16; 256],
+    tails: &mut [u8; 256],
+    heads: &mut [u8; 256],
+)
+    ensures tails { λ _. ⌜ now (tails .exit) ≡ tailsInto wavelength count (now (ends .entry)) (now (directions .entry)) (now (tails .entry)) ⌝ }
+    ensures heads { λ _. ⌜ now (heads .exit) ≡ headsInto wavelength count (now (ends .entry)) (now (directions .entry)) (now (heads .entry)) ⌝ }
+{
+    match wavelength {
+        Wavelength::First => orient(count, directions, ends, tails, heads),
+        Wavelength::Second => orient(count, directions, ends, heads, tails),
     }
 }
 
@@ -79,24 +96,12 @@ fn close(starts: &mut [u8], k: u16)
     }
 }
 
-// The back-up arcs under a cut of link k, for any ends and any directions: stores their tails and heads and, in `starts`, the tails again, but
-// for link k, which may not be offered. Gives the stream that the cut loses.
-pub fn under_cut(
-    count: u16,
-    directions: &[u8; 256],
-    ends: &[u16; 256],
-    tails: &mut [u8; 256],
-    heads: &mut [u8; 256],
-    starts: &mut [u8; 256],
-    k: u16,
-) -> Stream
-    ensures tails { λ _. ⌜ now (tails .exit) ≡ tailsInto count (now (ends .entry)) (now (directions .entry)) (now (tails .entry)) ⌝ }
-    ensures heads { λ _. ⌜ now (heads .exit) ≡ headsInto count (now (ends .entry)) (now (directions .entry)) (now (heads .entry)) ⌝ }
-    ensures starts { λ _. ⌜ now (starts .exit) ≡ set (tailsInto count (now (ends .entry)) (now (directions .entry)) (now (starts .entry))) k 255 ⌝ }
-    ensures source { λ r. ⌜ r .source ≡ at (now (heads .exit)) k ⌝ }
-    ensures target { λ r. ⌜ r .target ≡ at (now (tails .exit)) k ⌝ }
+// Link k is cut, on arcs with these tails and heads: in `starts`, which holds the tails again, it may not be offered. Gives the stream that the cut loses.
+pub fn lose(tails: &[u8; 256], heads: &[u8; 256], starts: &mut [u8; 256], k: u16) -> Stream
+    ensures starts { λ _. ⌜ now (starts .exit) ≡ set (now (starts .entry)) k 255 ⌝ }
+    ensures source { λ r. ⌜ r .source ≡ at (now (heads .entry)) k ⌝ }
+    ensures target { λ r. ⌜ r .target ≡ at (now (tails .entry)) k ⌝ }
 {
-    orient(count, directions, ends, tails, heads, starts);
     close(starts, k);
     let source = entry(heads, k);
     let target = entry(tails, k);

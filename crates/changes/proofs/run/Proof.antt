@@ -1,10 +1,11 @@
--- `changes::run` meets its contract: refused, the flood stays; accepted, the run is that on the back-up digraph.
+-- `changes::run` meets its contract: refused, the floods stay; accepted, the run is that on the back-up digraphs of both wavelengths.
 use mathlib.Core.Path.{_≡_, refl, sym, ap, _∙_}
 use borrow.Author.Needs.{needs}
 use Rattle.mesh.specs.declared.Answer.{Answer}
 use Rattle.mesh.specs.Laws.Answer.{refused-accepted}
-use Rattle.flood.specs.declared.Flood.{Flood}
 use Rattle.flood.specs.Lent.{flood}
+use Rattle.wavelengths.specs.declared.Floods.{Floods}
+use Rattle.wavelengths.specs.Wavelength.{pair}
 use Rattle.refusals.specs.Refusals as refusals
 use Rattle.refusals.specs.Laws.Tested.{run-accepted}
 use Rattle.pieces.specs.Pieces.{tested}
@@ -12,9 +13,9 @@ use Rattle.pieces.specs.Laws.Tested.{tested-is, given-standing}
 use Rattle.changes.proofs.run.Statement.{statement}
 use Rattle.changes.proofs.run.Tie as tie
 
--- the flood that is lent
-abbrev lent : tie.Start → Flood
-lent s = let a = s .args in flood (a .states .now) (a .reached .now)
+-- the floods that are lent
+abbrev lent : tie.Start → Floods
+lent s = let a = s .args in pair (flood (a .states1 .now) (a .reached1 .now)) (flood (a .states2 .now) (a .reached2 .now))
 
 -- the answer to the record
 abbrev record-of : tie.Start → Answer
@@ -22,7 +23,7 @@ record-of s = let a = s .args in tested (a .mesh) (a .directions .now) (a .cut) 
 
 -- where the mesh has been taken apart
 abbrev apart : tie.After-run-answer → tie.After-split
-apart c = c .before .before .before .before .before
+apart c = c .before .before .before .before .before .before .before
 
 -- the answer is that of the pieces
 answered : (c : tie.After-run-answer) → let s = apart c .before .before in c .run-answer .result ≡ refusals.runAnswer (record-of s) (s .args .cut)
@@ -59,7 +60,7 @@ run-requires c κs = search needs
 
 returns-2 : tie.Need-returns-2
 returns-2 c =
-    let k = c .before .before .before in
+    let k = c .before .before .before .before .before in
     let e = k .before .before in
     let d = e .before .before in
     let s = apart d .before .before in

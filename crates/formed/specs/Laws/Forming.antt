@@ -21,10 +21,14 @@ use Rattle.mesh.specs.WellFormed.{WellFormed}
 use Rattle.mesh.specs.Laws.Answer.{refused-accepted, Tells, accepting, refusing, told-accepted, told-refused, tells-accepted, tells-andThen}
 use Rattle.mesh.specs.Laws.Checked.{passes, well-formed, accepts}
 use Rattle.flood.specs.declared.Flood.{Flood}
+use Rattle.wavelengths.specs.declared.Floods.{Floods}
+use Rattle.wavelengths.specs.declared.Wavelength.{Wavelength}
+use Rattle.wavelengths.specs.declared.Wavelength.the-variants.{First, Second}
+use Rattle.wavelengths.specs.Wavelength.{on}
 use Rattle.formed.specs.declared.Cut.{Cut}
 use Rattle.formed.specs.declared.Cut.the-variants as cuts
 use Rattle.faults.specs.Faults.{isOver, overflows, isStray, strays}
-use Rattle.formed.specs.Formed.{misplaced, planFault, floodFault, startAnswer, recordAnswer}
+use Rattle.formed.specs.Formed.{misplaced, planFault, floodFault, floodsFault, startAnswer, recordAnswer}
 use Rattle.formed.specs.WellFormed.{Bounded, PlanFormed, CutFormed, FloodFormed, Formed, Refusal, of-mesh, ill-formed}
 
 -- ---- one entry
@@ -91,6 +95,19 @@ module _ (m : Mesh) (f : Flood) (few : m .count ≤ 256) where
   pub flood-says : Says (not (floodFault m f)) (FloodFormed m f)
   flood-says = (λ t. let (a, b) = flood-parts .0 t in record { states = a; reached = b }, λ F. flood-parts .1 (F .states, F .reached))
 
+-- the floods on the two wavelengths
+module _ (m : Mesh) (f : Floods) (few : m .count ≤ 256) where
+  pub floods-says : Says (not (floodsFault m f)) ((w : Wavelength) → FloodFormed m (on w f))
+  unfolding floodsFault
+  floods-says = (λ t w. each (both .0 t) w, λ F. both .1 (F First, F Second))
+    where
+      both : Says (not (floodFault m (f .first) || floodFault m (f .second))) (FloodFormed m (f .first) × FloodFormed m (f .second))
+      both = nor-says (floodFault m (f .first)) (floodFault m (f .second)) (flood-says m (f .first) few) (flood-says m (f .second) few)
+
+      each : FloodFormed m (f .first) × FloodFormed m (f .second) → (w : Wavelength) → FloodFormed m (on w f)
+      each (a, b) First = a
+      each (a, b) Second = b
+
 -- ---- what the answers tell
 
 -- the mesh is accepted and F holds, or which refusal it is
@@ -142,23 +159,23 @@ module _ (m : Mesh) (p : Plan) where
   pub refused-start : {number place : ℕ} → startAnswer m p ≡ Refused number place → Refusal m (PlanFormed m p) number place
   refused-start e = told-refused (subst (Told m (PlanFormed m p)) e start-told)
 
-module _ (m : Mesh) (p : Plan) (c : Cut) (f : Flood) where
+module _ (m : Mesh) (p : Plan) (c : Cut) (f : Floods) where
   -- what a record asks for besides its mesh
   abbrev Rest : Type 0
-  Rest = PlanFormed m p × (CutFormed m c × FloodFormed m f)
+  Rest = PlanFormed m p × (CutFormed m c × ((w : Wavelength) → FloodFormed m (on w f)))
 
   record-told : Told m Rest (recordAnswer m p c f)
   unfolding recordAnswer
   record-told =
       tells-andThen (start-told m p)
       (λ (e, plan). let says = parts (passes m e .count-most) in
-      branch (Told m Rest) (not (misplaced (m .count) c || floodFault m f))
+      branch (Told m Rest) (not (misplaced (m .count) c || floodsFault m f))
       (λ t. accepting (e, (plan, says .0 t)))
       (λ t. refusing (ill-formed e (λ r. fails says t (r .1)))))
       (refused-more m (λ r. r .0))
     where
-      parts : m .count ≤ 256 → Says (not (misplaced (m .count) c || floodFault m f)) (CutFormed m c × FloodFormed m f)
-      parts few = nor-says (misplaced (m .count) c) (floodFault m f) (cut-says m c) (flood-says m f few)
+      parts : m .count ≤ 256 → Says (not (misplaced (m .count) c || floodsFault m f)) (CutFormed m c × ((w : Wavelength) → FloodFormed m (on w f)))
+      parts few = nor-says (misplaced (m .count) c) (floodsFault m f) (cut-says m c) (floods-says m f few)
 
   -- the test accepts exactly the well-formed records
   pub record-formed : length (m .links) ≡ 256 → (recordAnswer m p c f ≡ Accepted) ↔ Formed m p c f
@@ -168,7 +185,7 @@ module _ (m : Mesh) (p : Plan) (c : Cut) (f : Flood) where
         λ F. says .1 (F .mesh, (F .plan, (F .cut, F .flood))),
       )
 
-  pub record-accepts : meshAnswer m ≡ Accepted → PlanFormed m p → CutFormed m c → FloodFormed m f → recordAnswer m p c f ≡ Accepted
+  pub record-accepts : meshAnswer m ≡ Accepted → PlanFormed m p → CutFormed m c → ((w : Wavelength) → FloodFormed m (on w f)) → recordAnswer m p c f ≡ Accepted
   record-accepts b planned placed flooded = told-accepts m record-told b (planned, (placed, flooded))
 
   -- it refuses with the mesh's own refusal, or with 13 at 0 where the mesh is accepted and the record is ill-formed

@@ -14,9 +14,10 @@ use Rattle.mesh.specs.declared.Answer.{Answer}
 use Rattle.mesh.specs.declared.Answer.the-variants.{Accepted, Refused}
 use Rattle.mesh.specs.Mesh.{andThen}
 use Rattle.flood.specs.Machine.{fresh}
+use Rattle.wavelengths.specs.Merge.{freshOnEach}
 use Rattle.formed.specs.declared.Cut.the-variants.{Nothing}
 use Rattle.faults.specs.Faults.{isOver, overflows, isStray, strays}
-use Rattle.formed.specs.Formed.{floodFault, startAnswer, recordAnswer}
+use Rattle.formed.specs.Formed.{floodFault, floodsFault, startAnswer, recordAnswer}
 
 module _ (m : Mesh) where
   all-quiet : overflows (m .count) 4 (replicate 256 0) ≡ false
@@ -27,8 +28,8 @@ module _ (m : Mesh) where
   unfolding strays isStray
   none-reached = any-none _ 64 64 (λ v b. rw (replicate-at 64 false v) (and-false (leb (m .nodes) v))) (omega arith)
 
-  pub fresh-answer : (p : Plan) → recordAnswer m p Nothing (fresh 256 64) ≡ startAnswer m p
-  unfolding recordAnswer floodFault fresh
+  pub fresh-answer : (p : Plan) → recordAnswer m p Nothing (freshOnEach 256 64) ≡ startAnswer m p
+  unfolding recordAnswer floodsFault floodFault fresh
   fresh-answer p = rw (all-quiet, none-reached) (go (startAnswer m p))
     where
       go : (a : Answer) → andThen a Accepted ≡ a

@@ -1,5 +1,7 @@
 -- It stores back what `Session::deliver` returns.
 use mathlib.Core.Path.{_≡_, refl}
+use mathlib.Core.List.{[], _∷_}
+use mir.Syntax.{w8, w16}
 use contract.Running.{givenOf, tables, tablesOf}
 use denote.Triple.Spec.{tripleOf}
 use denote.Triple.Table.{entered, cited}
@@ -15,7 +17,7 @@ use Rattle.in_place.proofs.deliver.Statement.{statement}
 use Rattle.in_place.proofs.deliver.Code as code
 
 -- its code is the code that the walk is of
-code-is : code.function ≡ stored-back ofSession ofDelivery by-value.name
+code-is : code.function ≡ stored-back ofSession ofDelivery (w16 ∷ w8 ∷ []) by-value.name
 code-is = refl
 
 pub deliver-spec : {M : Type 1} → statement M
@@ -23,5 +25,5 @@ unfolding code.routine tablesOf
 deliver-spec 𝓤 H 𝓜 𝓖 𝓡 =
     entered 𝓤 H (tripleOf 𝓤 H (𝓖 .A) in-place.signature (in-place.spec 𝓤 H (𝓖 .A) (𝓜 .mem) (𝓡 .run)))
     (tables 𝓤 H 𝓜 𝓡 code.env .C) (tables 𝓤 H 𝓜 𝓡 code.env .Λ) name code.function (code.unfolded 𝓤 H 𝓜 𝓡)
-    (stores-back ofSession ofDelivery by-value.name afterDelivery 𝓤 H (𝓖 .A) (givenOf 𝓤 H 𝓜 𝓖) (tablesOf 𝓤 H 𝓜 (tables 𝓤 H 𝓜 𝓡 code.env))
-    (cited 𝓤 H (ByValue ofSession ofDelivery afterDelivery 𝓤 H (𝓖 .A)) 𝓜 𝓡 code.env by-value.name by-value.routine code.calls-recovery·Session·deliver (by-value-met.met 𝓤 H 𝓜 𝓖 𝓡)))
+    (stores-back ofSession ofDelivery (w16 ∷ w8 ∷ []) by-value.name afterDelivery 𝓤 H (𝓖 .A) (givenOf 𝓤 H 𝓜 𝓖) (tablesOf 𝓤 H 𝓜 (tables 𝓤 H 𝓜 𝓡 code.env))
+    (cited 𝓤 H (ByValue ofSession ofDelivery (w16 ∷ w8 ∷ []) afterDelivery 𝓤 H (𝓖 .A)) 𝓜 𝓡 code.env by-value.name by-value.routine code.calls-recovery·Session·deliver (by-value-met.met 𝓤 H 𝓜 𝓖 𝓡)))

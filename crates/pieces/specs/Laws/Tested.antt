@@ -11,7 +11,7 @@ use Rattle.mesh.specs.declared.Answer.the-variants.{Accepted}
 use Rattle.mesh.specs.WellFormed.{InRange}
 use Rattle.mesh.specs.Parts.{endsInto, restZero, partsAnswer}
 use Rattle.mesh.specs.Laws.Parts.{ends-in}
-use Rattle.flood.specs.declared.Flood.{Flood}
+use Rattle.wavelengths.specs.declared.Floods.{Floods}
 use Rattle.formed.specs.declared.Cut.{Cut}
 use Rattle.formed.specs.declared.Cut.the-variants as cuts
 use Rattle.formed.specs.Formed.{cutLink}
@@ -31,13 +31,13 @@ stands-link (cuts.Link k) t = refl
 abbrev pub Split : Mesh → List ℕ → Bool → Type 0
 Split m ends zeros = (zeros ≡ restZero m) × ((ends ≡ endsInto m (replicate 256 0)) × InRange m)
 
-module _ (m : Mesh) (ends : List ℕ) (zeros : Bool) (split : Split m ends zeros) (directions : List ℕ) (c : Cut) (f : Flood) where
+module _ (m : Mesh) (ends : List ℕ) (zeros : Bool) (split : Split m ends zeros) (directions : List ℕ) (c : Cut) (f : Floods) where
   -- the record test on these parts is that of the pieces
-  pub tested-is : {a : Answer} → a ≡ recordAfter (partsAnswer (m .nodes) (m .count) zeros ends) (m .nodes) (m .count) directions c (f .states) (f .reached)
+  pub tested-is : {a : Answer} → a ≡ recordAfter (partsAnswer (m .nodes) (m .count) zeros ends) (m .nodes) (m .count) directions c f
       → a ≡ tested m directions c f
   tested-is e =
       e
-      ∙ (λ j. recordAfter (partsAnswer (m .nodes) (m .count) (split .0 j) ((split .1 .0 ∙ ends-in m) j)) (m .nodes) (m .count) directions c (f .states) (f .reached))
+      ∙ (λ j. recordAfter (partsAnswer (m .nodes) (m .count) (split .0 j) ((split .1 .0 ∙ ends-in m) j)) (m .nodes) (m .count) directions c f)
       ∙ record-pieces m (record { directions = directions }) c f (split .1 .1)
 
   -- what is given where the record is accepted: a link to cut, or the cut that stands

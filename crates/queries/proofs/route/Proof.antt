@@ -1,64 +1,97 @@
--- `queries::route` meets its contract: refused or under way, there are no links; at rest, the taken links from x on.
+-- `queries::route` meets its contract: refused, there are no links; accepted, those that are found with the states of the wavelength.
+use Prim.Native.Nat.{ℕ}
 use mathlib.Core.Path.{_≡_, sym, ap, _∙_}
 use mathlib.Core.Bool.{Bool}
-use mathlib.Core.List.{[]}
-use borrow.Author.Tests.{not-true, not-false}
+use mathlib.Core.List.{List, []}
 use borrow.Author.Needs.{needs}
 use Rattle.mesh.specs.declared.Answer.{Answer}
 use Rattle.mesh.specs.declared.Answer.the-variants.{Accepted}
-use Rattle.flood.specs.declared.Flood.{Flood}
 use Rattle.flood.specs.declared.Route.{Route}
 use Rattle.flood.specs.Machine.{atRest}
 use Rattle.flood.specs.Lent.{flood}
 use Rattle.flood.specs.Topology.{asRoute}
+use Rattle.wavelengths.specs.declared.Floods.{Floods}
+use Rattle.wavelengths.specs.declared.Wavelength.{Wavelength}
+use Rattle.wavelengths.specs.declared.Wavelength.the-variants.{First, Second}
+use Rattle.wavelengths.specs.Wavelength.{wavelengthOf, on, pair}
+use Rattle.formed.specs.Formed.{cutLink}
 use Rattle.formed.specs.Laws.Forming.{record-few}
 use Rattle.refusals.specs.Refusals as refusals
-use Rattle.refusals.specs.Laws.Tested.{run-accepted}
+use Rattle.refusals.specs.Laws.Tested.{route-accepted}
 use Rattle.pieces.specs.Pieces.{chosen, digraph, tested}
+use Rattle.pieces.specs.Given.{Given}
+use Rattle.pieces.specs.Laws.Tested.{Split, tested-is, given-standing}
 use Rattle.queries.specs.Queries.{linksWhere}
 use Rattle.queries.specs.Laws.Counts.{resting-counted}
-use Rattle.pieces.specs.Laws.Tested.{tested-is, given-standing}
 use Rattle.queries.proofs.route.Statement.{statement}
 use Rattle.queries.proofs.route.Tie as tie
 
--- the flood that is lent
-abbrev lent : tie.Start → Flood
-lent s = let a = s .args in flood (a .states .now) (a .reached .now)
+-- the floods that are lent
+abbrev lent : tie.Start → Floods
+lent s = let a = s .args in pair (flood (a .states1 .now) (a .reached1 .now)) (flood (a .states2 .now) (a .reached2 .now))
 
 -- the answer to the record
 abbrev record-of : tie.Start → Answer
 record-of s = let a = s .args in tested (a .mesh) (a .directions .now) (a .cut) (lent s)
 
--- where the mesh has been taken apart
-abbrev apart : tie.After-run-answer → tie.After-split
+-- where the mesh has been taken apart, and where the function began
+abbrev apart : tie.After-route-answer → tie.After-split
 apart c = c .before .before .before
 
+abbrev start : tie.After-route-answer → tie.Start
+start c = apart c .before .before
+
 -- the answer is that of the pieces
-answered : (c : tie.After-run-answer) → let s = apart c .before .before in c .run-answer .result ≡ refusals.runAnswer (record-of s) (s .args .cut)
+answered : (c : tie.After-route-answer)
+    → let s = start c in c .route-answer .result ≡ refusals.routeAnswer (record-of s) (s .args .cut) (s .args .wavelength)
 answered c =
-    let s = apart c .before .before in
+    let s = start c in
     let a = s .args in
-    c .run-answer .ensures
-    ∙ ap (λ (t : Answer). refusals.runAnswer t (a .cut)) (tested-is (a .mesh) _ _ (apart c .split .ensures) _ (a .cut) (lent s) (c .before .record-answer .ensures))
+    c .route-answer .ensures
+    ∙ ap (λ (t : Answer). refusals.routeAnswer t (a .cut) (a .wavelength))
+    (tested-is (a .mesh) _ _ (apart c .split .ensures) _ (a .cut) (lent s) (c .before .record-answer .ensures))
 
-accepted : (c : tie.After-enum-told) → let s = apart (c .before .before) .before .before in refusals.runAnswer (record-of s) (s .args .cut) ≡ Accepted
-accepted c = sym (answered (c .before .before)) ∙ c .enum-told .given .1
+-- the links on a wavelength, where b says that none is under way on it
+abbrev links-by : tie.Start → Wavelength → Bool → Route
+links-by s w b = let a = s .args in asRoute (linksWhere (a .mesh) (a .directions .now) (a .cut) (lent s) w b)
 
--- whether no link is under way, and the count that says so
-abbrev rest-of : tie.Start → Bool
-rest-of s = atRest (digraph (s .args .mesh) (s .args .directions .now)) (lent s)
+-- the route that is found on a wavelength, by the answer
+abbrev found-by : tie.Start → Answer → Wavelength → Route
+found-by s r w = chosen r (asRoute []) (links-by s w (atRest (digraph (s .args .mesh) (s .args .directions .now) w) (on w (lent s))))
 
-rests : (c : tie.After-is-resting) → c .is-resting .result ≡ rest-of (apart (c .before .before .before) .before .before)
-rests c =
-    let s = apart (c .before .before .before) .before .before in
+-- where the answer accepts, and where it is known which wavelength is named and which link is cut
+abbrev passed : tie.After-cut-link → tie.After-enum-told
+passed c = c .before .before
+
+abbrev begun : tie.After-cut-link → tie.Start
+begun c = start (passed c .before .before)
+
+accepted : (c : tie.After-cut-link) → let a = begun c .args in refusals.routeAnswer (record-of (begun c)) (a .cut) (a .wavelength) ≡ Accepted
+accepted c = sym (answered (passed c .before .before)) ∙ passed c .enum-told .given .1
+
+given : (c : tie.After-cut-link) (ends : List ℕ) (zeros : Bool)
+    → let a = begun c .args in
+    Split (a .mesh) ends zeros → Given (a .mesh) (a .mesh .count) ends (cutLink (a .cut))
+given c ends zeros split =
+    let s = begun c in
     let a = s .args in
-    let (r, stands) = run-accepted (record-of s) (a .cut) (accepted (c .before)) in
-    c .is-resting .ensures
-    ∙ resting-counted (digraph (a .mesh) (a .directions .now)) (lent s) (record-few (a .mesh) (record { directions = a .directions .now }) (a .cut) (lent s) r)
+    let (r, named, stands) = route-accepted (record-of s) (a .cut) (a .wavelength) (accepted c) in
+    given-standing (a .mesh) ends zeros split (a .directions .now) (a .cut) (lent s) r stands
 
--- the route that is found, by the answer and the rest
-abbrev found-by : tie.Start → Answer → Bool → Route
-found-by s r b = let a = s .args in chosen r (asRoute []) (asRoute (linksWhere (a .mesh) (a .directions .now) (a .cut) (lent s) b))
+-- the links by the count over the states are those that are found
+found : (c : tie.After-cut-link) (w : Wavelength) (r : Route)
+    → let s = begun c in
+    c .before .wavelength-of .result ≡ w
+    → r ≡ links-by s w (refusals.resting (s .args .mesh .count) (on w (lent s) .states))
+    → r ≡ found-by s (passed c .before .before .route-answer .result) (wavelengthOf (s .args .wavelength))
+found c w r e h =
+    let s = begun c in
+    let a = s .args in
+    let (t, named, stands) = route-accepted (record-of s) (a .cut) (a .wavelength) (accepted c) in
+    let few = record-few (a .mesh) (record { directions = a .directions .now }) (a .cut) (lent s) t in
+    h
+    ∙ ap (links-by s w) (resting-counted (digraph (a .mesh) (a .directions .now) w) (on w (lent s)) few)
+    ∙ sym (λ i. found-by s (passed c .enum-told .given .1 i) ((sym (c .before .wavelength-of .ensures) ∙ e) i))
 
 split-requires : tie.Need-split-requires
 split-requires c κs = search needs
@@ -66,8 +99,8 @@ split-requires c κs = search needs
 record-answer-requires : tie.Need-record-answer-requires
 record-answer-requires c κs = search needs
 
-run-answer-requires : tie.Need-run-answer-requires
-run-answer-requires c κs = search needs
+route-answer-requires : tie.Need-route-answer-requires
+route-answer-requires c κs = search needs
 
 enum-told : tie.Need-enum-told
 enum-told c = search needs
@@ -81,45 +114,46 @@ no-route-requires c κs = search needs
 returns : tie.Need-returns
 returns c =
     let d = c .before .before .before in
-    let s = apart d .before .before in
+    let s = start d in
     let t = c .before .enum-told2 .given .1 in
-    record { answer = answered d; route = c .no-route .ensures ∙ sym (ap (λ (r : Answer). found-by s r (rest-of s)) t) }
+    record { answer = answered d; route = c .no-route .ensures ∙ sym (ap (λ (r : Answer). found-by s r (wavelengthOf (s .args .wavelength))) t) }
 
-is-resting-requires : tie.Need-is-resting-requires
-is-resting-requires c κs = search needs
-
-no-route-requires-2 : tie.Need-no-route-requires-2
-no-route-requires-2 c κs = search needs
-
-returns-2 : tie.Need-returns-2
-returns-2 c =
-    let b = c .before in
-    let e = b .before .before in
-    let d = e .before .before in
-    let s = apart d .before .before in
-    let busy = sym (rests (b .before)) ∙ not-true _ (b .if1 .taken) in
-    record { answer = answered d; route = c .no-route2 .ensures ∙ sym (λ i. found-by s (e .enum-told .given .1 i) (busy i)) }
+wavelength-of-requires : tie.Need-wavelength-of-requires
+wavelength-of-requires c κs = search needs
 
 cut-link-requires : tie.Need-cut-link-requires
 cut-link-requires c κs = search needs
 
-route-requires : tie.Need-route-requires
-route-requires c κs = search needs
+enum-told-3 : tie.Need-enum-told-3
+enum-told-3 c = search needs
+
+route-on-requires : tie.Need-route-on-requires
+route-on-requires c κs = search needs
+
+enum-told-4 : tie.Need-enum-told-4
+enum-told-4 c = search needs
+
+route-on-requires-2 : tie.Need-route-on-requires-2
+route-on-requires-2 c κs = search needs
+
+returns-2 : tie.Need-returns-2
+returns-2 c =
+    let e = c .before .before in
+    let k = e .before .before in
+    let w = e .enum-told3 .given .1 in
+    record {
+      answer = answered (passed k .before .before);
+      route = found k First _ w ((rw (k .cut-link .ensures, w) at (c .route-on .ensures)) (begun k .args .mesh) (given k _ _ (apart (passed k .before .before) .split .ensures)));
+    }
 
 returns-3 : tie.Need-returns-3
 returns-3 c =
-    let k = c .before in
-    let b = k .before .before in
-    let e = b .before .before in
-    let d = e .before .before in
-    let s = apart d .before .before in
-    let a = s .args in
-    let (r, stands) = run-accepted (record-of s) (a .cut) (accepted e) in
-    let given = given-standing (a .mesh) _ _ (apart d .split .ensures) (a .directions .now) (a .cut) (lent s) r stands in
-    let rest = sym (rests (b .before)) ∙ not-false _ (b .if1 .left) in
+    let e = c .before .before in
+    let k = e .before .before in
+    let w = e .enum-told4 .given .1 in
     record {
-      answer = answered d;
-      route = (rw (k .cut-link .ensures) at (c .route .ensures)) (a .mesh) given ∙ sym (λ i. found-by s (e .enum-told .given .1 i) (rest i));
+      answer = answered (passed k .before .before);
+      route = found k Second _ w ((rw (k .cut-link .ensures, w) at (c .route-on2 .ensures)) (begun k .args .mesh) (given k _ _ (apart (passed k .before .before) .split .ensures)));
     }
 
 pub route-spec : {M : Type 1} → statement M
@@ -128,14 +162,16 @@ route-spec =
     (tie.spec
     split-requires
     record-answer-requires
-    run-answer-requires
+    route-answer-requires
     enum-told
     enum-told-2
     no-route-requires
     returns
-    is-resting-requires
-    no-route-requires-2
-    returns-2
+    wavelength-of-requires
     cut-link-requires
-    route-requires
+    enum-told-3
+    route-on-requires
+    enum-told-4
+    route-on-requires-2
+    returns-2
     returns-3)

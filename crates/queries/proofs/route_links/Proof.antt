@@ -1,4 +1,5 @@
--- `queries::route_links` meets its contract: each return rewrites with the cut and the test that led there.
+-- `queries::route_links` meets its contract: each return rewrites with the cut and the tests that led there.
+use mathlib.Core.Bool.{and-false}
 use borrow.Author.Tests.{eq-eqb, ne-eqb}
 use borrow.Author.Needs.{needs}
 use Rattle.queries.proofs.route_links.Statement.{statement}
@@ -17,7 +18,10 @@ returns-2 : tie.Need-returns-2
 returns-2 c = rw (c .before .enum-told .given .1, ne-eqb _ _ (c .if1 .taken))
 
 returns-3 : tie.Need-returns-3
-returns-3 c = rw (c .before .enum-told .given .1, eq-eqb _ _ (c .if1 .left))
+returns-3 c = rw (c .before .before .enum-told .given .1, ne-eqb _ _ (c .if2 .taken), and-false)
+
+returns-4 : tie.Need-returns-4
+returns-4 c = rw (c .before .before .enum-told .given .1, eq-eqb _ _ (c .before .if1 .left), eq-eqb _ _ (c .if2 .left))
 
 pub route-links-spec : {M : Type 1} → statement M
-route-links-spec = tie.close (tie.spec enum-told enum-told-2 returns returns-2 returns-3)
+route-links-spec = tie.close (tie.spec enum-told enum-told-2 returns returns-2 returns-3 returns-4)

@@ -9,6 +9,7 @@ use Rattle.metres.specs.Length.{lengthOf}
 use Rattle.metres.specs.Laws.Length.{length-none, length-listed}
 use Rattle.taken.specs.Taken.{isTaken}
 use Rattle.mesh.specs.WellFormed.{lengths}
+use Rattle.wavelengths.specs.Wavelength.{each}
 use Rattle.queries.proofs.split_taken.Statement.{statement}
 use Rattle.queries.proofs.split_taken.Tie as tie
 
@@ -20,10 +21,11 @@ returns c =
     let a = c .before .before .before .args in
     let e = c .split .ensures in
     let none : a .links ≡ 0 = c .before .before .if1 .taken in
-    (e .0, (e .1 .0, (sym (ap (λ (n : ℕ). lengthOf (lengths (a .mesh)) (isTaken (a .states .now)) (min n 256)) none ∙ length-none (lengths (a .mesh)) (isTaken (a .states .now))), e .1 .1)))
+    let taken = isTaken (each (a .states1 .now) (a .states2 .now) (a .w)) in
+    (e .0, (e .1 .0, (sym (ap (λ (n : ℕ). lengthOf (lengths (a .mesh)) taken (min n 256)) none ∙ length-none (lengths (a .mesh)) taken), e .1 .1)))
 
-list-requires : tie.Need-list-requires
-list-requires c κs = search needs
+list-taken-requires : tie.Need-list-taken-requires
+list-taken-requires c κs = search needs
 
 split-along-requires : tie.Need-split-along-requires
 split-along-requires c κs = search needs
@@ -33,8 +35,8 @@ returns-2 c =
     let l = c .before .before .before in
     let a = l .before .before .before .args in
     let e = c .split-along .ensures in
-    let few : min (l .list .result) 256 ≡ l .list .result = omega (arith, listing-le (l .list .ensures)) in
-    (e .0, (e .1 .0, (e .1 .1 .0 ∙ ap (lengthOf _ (λ i. true)) few ∙ length-listed (lengths (a .mesh)) (l .list .ensures), e .1 .1 .1)))
+    let few : min (l .list-taken .result) 256 ≡ l .list-taken .result = omega (arith, listing-le (l .list-taken .ensures)) in
+    (e .0, (e .1 .0, (e .1 .1 .0 ∙ ap (lengthOf _ (λ i. true)) few ∙ length-listed (lengths (a .mesh)) (l .list-taken .ensures), e .1 .1 .1)))
 
 pub split-taken-spec : {M : Type 1} → statement M
-split-taken-spec = tie.close (tie.spec split-requires returns list-requires split-along-requires returns-2)
+split-taken-spec = tie.close (tie.spec split-requires returns list-taken-requires split-along-requires returns-2)

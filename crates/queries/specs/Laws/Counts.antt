@@ -17,11 +17,16 @@ use Rattle.flood.specs.declared.Flood.{Flood}
 use Rattle.flood.specs.Digraph.{Digraph}
 use Rattle.flood.specs.Machine.{underWay, some, atRest, activity}
 use Rattle.flood.specs.Topology.{underWayOf}
+use Rattle.wavelengths.specs.declared.Floods.{Floods}
+use Rattle.wavelengths.specs.declared.Wavelength.{Wavelength}
+use Rattle.wavelengths.specs.declared.Wavelength.the-variants.{First, Second}
+use Rattle.wavelengths.specs.Wavelength.{each, on}
+use Rattle.wavelengths.specs.Merge as both
 use Rattle.formed.specs.declared.Cut.{Cut}
 use Rattle.formed.specs.declared.Cut.the-variants as cuts
 use Rattle.formed.specs.Formed.{recordAnswer}
 use Rattle.formed.specs.Laws.Forming.{record-few}
-use Rattle.topology.specs.Backup.{backup}
+use Rattle.topology.specs.Backup.{backupOn}
 use Rattle.refusals.specs.Refusals.{standing, resting, mendAnswer}
 use Rattle.queries.specs.Counts.{linksBy}
 
@@ -37,25 +42,40 @@ module _ (g : Digraph) (f : Flood) (few : g .links ≤ 256) where
   unfolding underWayOf atRest some
   resting-counted = rw (all) (count-any (λ i. underWay (at (f .states) i)) (g .links))
 
-  -- the route length, by the number of links that are under way
-  pub length-counted : (length : ℕ → ℕ) (c : Cut)
-      → lengthOf length (isTaken (f .states)) (min (linksBy (g .links) c (underWayOf (g .links) (f .states))) 256)
-      ≡ routeLength (standing c && atRest g f) length (at (f .states)) (g .links)
-  unfolding routeLength
-  length-counted length cuts.Nothing = length-none length (isTaken (f .states))
-  length-counted length (cuts.Link k) = rw (resting-counted) (over (atRest g f))
-    where
-      over : (t : Bool) → lengthOf length (isTaken (f .states)) (min (cond t (g .links) 0) 256) ≡ cond t (lengthOf length (isTaken (f .states)) (g .links)) (Metres 0)
-      over true = rw (all)
-      over false = length-none length (isTaken (f .states))
+-- what is found of the flood on each wavelength, on one of them
+pub each-on : {A : Type 0} (found : Flood → A) (w : Wavelength) (f : Floods) → each (found (f .first)) (found (f .second)) w ≡ found (on w f)
+each-on found First f = refl
+each-on found Second f = refl
 
--- a mend is told that no link is under way by a count over the states, which is right where the record is accepted
-pub mend-counted : (m : Mesh) (p : Plan) (c : Cut) (f : Flood) (k : ℕ)
-    → mendAnswer (recordAnswer m p c f) (m .count) c (resting (m .count) (f .states)) k ≡ mendAnswer (recordAnswer m p c f) (m .count) c (atRest (backup m p) f) k
+-- the floods on the two wavelengths of a mesh under a plan
+module _ (m : Mesh) (p : Plan) (f : Floods) (few : m .count ≤ 256) where
+  pub both-counted : (resting (m .count) (f .first .states) && resting (m .count) (f .second .states)) ≡ both.atRest (λ w. backupOn w m p) f
+  unfolding both.atRest
+  both-counted = rw (resting-counted (backupOn First m p) (f .first) few, resting-counted (backupOn Second m p) (f .second) few)
+
+  -- the route length on a wavelength, by the numbers of links that are under way
+  pub length-counted : (length : ℕ → ℕ) (c : Cut) (w : Wavelength)
+      → lengthOf length (isTaken (on w f .states))
+      (min (linksBy (m .count) c (underWayOf (m .count) (f .first .states)) (underWayOf (m .count) (f .second .states))) 256)
+      ≡ routeLength (standing c && both.atRest (λ v. backupOn v m p) f) length (at (on w f .states)) (m .count)
+  unfolding routeLength
+  length-counted length cuts.Nothing w = length-none length (isTaken (on w f .states))
+  length-counted length (cuts.Link k) w = rw (both-counted) (over (both.atRest (λ v. backupOn v m p) f))
+    where
+      taken : ℕ → Bool
+      taken = isTaken (on w f .states)
+
+      over : (t : Bool) → lengthOf length taken (min (cond t (m .count) 0) 256) ≡ cond t (lengthOf length taken (m .count)) (Metres 0)
+      over true = let all : min (m .count) 256 ≡ m .count = omega arith in rw (all)
+      over false = length-none length taken
+
+-- a mend is told that no link is under way by counts over the states, which are right where the record is accepted
+pub mend-counted : (m : Mesh) (p : Plan) (c : Cut) (f : Floods) (k : ℕ)
+    → mendAnswer (recordAnswer m p c f) (m .count) c (resting (m .count) (f .first .states) && resting (m .count) (f .second .states)) k
+    ≡ mendAnswer (recordAnswer m p c f) (m .count) c (both.atRest (λ w. backupOn w m p) f) k
 unfolding mendAnswer
-mend-counted m p c f k = go (recordAnswer m p c f) (λ r. resting-counted (backup m p) f (record-few m p c f r))
+mend-counted m p c f k = go (recordAnswer m p c f) (λ r. both-counted m p f (record-few m p c f r))
   where
-    go : (a : Answer) → (a ≡ Accepted → resting (m .count) (f .states) ≡ atRest (backup m p) f)
-        → mendAnswer a (m .count) c (resting (m .count) (f .states)) k ≡ mendAnswer a (m .count) c (atRest (backup m p) f) k
+    go : {s t : Bool} (a : Answer) → (a ≡ Accepted → s ≡ t) → mendAnswer a (m .count) c s k ≡ mendAnswer a (m .count) c t k
     go Accepted same = ap (λ (rest : Bool). mendAnswer Accepted (m .count) c rest k) (same refl)
     go (Refused number place) same = refl

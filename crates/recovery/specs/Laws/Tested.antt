@@ -7,32 +7,40 @@ use borrow.Author.Tests.{lt-ltb}
 use Rattle.scan.specs.Entry.{at}
 use Rattle.mesh.specs.declared.Answer.the-variants.{Accepted}
 use Rattle.flood.specs.Machine.{underWay, accepts}
+use Rattle.wavelengths.specs.Wavelength.{isWavelength, wavelengthOf, on}
 use Rattle.refusals.specs.Refusals as refusals
 use Rattle.refusals.specs.Refusals.{standing}
 use Rattle.refusals.specs.Laws.Tested as pieces
 use Rattle.recovery.specs.declared.Session.{Session}
+use Rattle.recovery.specs.Session.{floods}
 use Rattle.recovery.specs.Formed.{recordAnswer}
-use Rattle.recovery.specs.Calls.{digraph, cutAnswer, deliverAnswer, runAnswer, statusAnswer}
+use Rattle.recovery.specs.Calls.{digraph, cutAnswer, deliverAnswer, runAnswer, statusAnswer, routeAnswer}
 
 module _ (s : Session) where
   pub cut-accepted : (k : ℕ) → cutAnswer s k ≡ Accepted → (recordAnswer s ≡ Accepted) × (k < s .mesh .count) × (standing (s .cut) ≡ false)
   cut-accepted k = pieces.cut-accepted (recordAnswer s) (s .mesh .count) k (s .cut)
 
-  pub deliver-accepted : (k : ℕ) → deliverAnswer s k ≡ Accepted
-      → (recordAnswer s ≡ Accepted) × (k < s .mesh .count) × (standing (s .cut) ≡ true) × (accepts (digraph s) k (s .flood) ≡ true)
+  pub deliver-accepted : (k n : ℕ) → deliverAnswer s k n ≡ Accepted
+      → let w = wavelengthOf n in
+      (recordAnswer s ≡ Accepted) × (k < s .mesh .count) × (isWavelength n ≡ true) × (standing (s .cut) ≡ true) × (accepts (digraph s w) k (on w (floods s)) ≡ true)
   unfolding accepts
-  deliver-accepted k e =
-      let (r, l, c, u) = pieces.deliver-accepted (recordAnswer s) (s .mesh .count) k (s .cut) (s .flood .states) e in
-      (r, l, c, rw (lt-ltb k (s .mesh .count) l) u)
+  deliver-accepted k n e =
+      let (r, l, n, c, u) = pieces.deliver-accepted (recordAnswer s) (s .mesh .count) k (s .cut) (on (wavelengthOf n) (floods s) .states) n e in
+      (r, l, n, c, rw (lt-ltb k (s .mesh .count) l) u)
 
   pub run-accepted : runAnswer s ≡ Accepted → (recordAnswer s ≡ Accepted) × (standing (s .cut) ≡ true)
   run-accepted = pieces.run-accepted (recordAnswer s) (s .cut)
 
-  pub status-accepted : (k : ℕ) → statusAnswer s k ≡ Accepted → (recordAnswer s ≡ Accepted) × (k < s .mesh .count)
-  status-accepted k = pieces.status-accepted (recordAnswer s) (s .mesh .count) k
+  pub status-accepted : (k n : ℕ) → statusAnswer s k n ≡ Accepted → (recordAnswer s ≡ Accepted) × (k < s .mesh .count) × (isWavelength n ≡ true)
+  status-accepted k n = pieces.status-accepted (recordAnswer s) (s .mesh .count) k n
 
-  -- with the record test and a cut, a delivery is accepted where the flood accepts it
-  pub deliver-accepts : (k : ℕ) → recordAnswer s ≡ Accepted → standing (s .cut) ≡ true → accepts (digraph s) k (s .flood) ≡ true
-      → deliverAnswer s k ≡ Accepted
+  pub route-accepted : (n : ℕ) → routeAnswer s n ≡ Accepted → (recordAnswer s ≡ Accepted) × (isWavelength n ≡ true) × (standing (s .cut) ≡ true)
+  route-accepted n = pieces.route-accepted (recordAnswer s) (s .cut) n
+
+  -- with the record test and a cut, a delivery on a wavelength is accepted where its flood accepts it
+  pub deliver-accepts : (k n : ℕ) → recordAnswer s ≡ Accepted → isWavelength n ≡ true → standing (s .cut) ≡ true
+      → accepts (digraph s (wavelengthOf n)) k (on (wavelengthOf n) (floods s)) ≡ true → deliverAnswer s k n ≡ Accepted
   unfolding refusals.deliverAnswer accepts
-  deliver-accepts k r c a = let (l, u) = and-eq-true-iff (ltb k (s .mesh .count)) (underWay (at (s .flood .states) k)) .0 a in rw (r, c, l, u)
+  deliver-accepts k n r named c a =
+      let (l, u) = and-eq-true-iff (ltb k (s .mesh .count)) (underWay (at (on (wavelengthOf n) (floods s) .states) k)) .0 a in
+      rw (r, named, c, l, u)

@@ -4,12 +4,12 @@ use borrow.Author.Tests.{not-true, not-false}
 use borrow.Author.Needs.{needs}
 use Rattle.mesh.specs.declared.Answer.the-variants.{Accepted}
 use Rattle.refusals.specs.Refusals.{statusAnswer, deliverAnswer}
-use Rattle.refusals.specs.Laws.Tested.{link-first}
+use Rattle.refusals.specs.Laws.Tested.{status-first}
 use Rattle.refusals.proofs.deliver_answer.Statement.{statement}
 use Rattle.refusals.proofs.deliver_answer.Tie as tie
 
--- what is known once 12 is passed
-passes : (c : tie.After-enum-told) → let a = c .before .before .before .before .args in statusAnswer (a .tested) (a .count) (a .link) ≡ Accepted
+-- what is known once 12 and 14 are passed
+passes : (c : tie.After-enum-told) → let a = c .before .before .before .before .args in statusAnswer (a .tested) (a .count) (a .link) (a .wavelength) ≡ Accepted
 passes c = sym (c .before .before .status-answer .ensures) ∙ c .enum-told .given .1
 
 status-answer-requires : tie.Need-status-answer-requires
@@ -23,7 +23,7 @@ enum-told-2 c = search needs
 
 returns : tie.Need-returns
 unfolding deliverAnswer
-returns c = let t = c .enum-told2 .given .1 in rw (link-first, sym (c .before .before .status-answer .ensures) ∙ t) t
+returns c = let t = c .enum-told2 .given .1 in rw (status-first, sym (c .before .before .status-answer .ensures) ∙ t) t
 
 is-standing-requires : tie.Need-is-standing-requires
 is-standing-requires c κs = search needs
@@ -33,7 +33,7 @@ refused-requires c κs = search needs
 
 returns-2 : tie.Need-returns-2
 unfolding deliverAnswer
-returns-2 c = let d = c .before .before in rw (link-first, passes (d .before), sym (d .is-standing .ensures) ∙ not-true _ (c .before .if1 .taken)) (c .refused .ensures)
+returns-2 c = let d = c .before .before in rw (status-first, passes (d .before), sym (d .is-standing .ensures) ∙ not-true _ (c .before .if1 .taken)) (c .refused .ensures)
 
 is-busy-requires : tie.Need-is-busy-requires
 is-busy-requires c κs = search needs
@@ -43,7 +43,7 @@ unfolding deliverAnswer
 returns-3 c =
     let b = c .before in
     let d = b .before .before in
-    rw (link-first, passes (d .before), sym (d .is-standing .ensures) ∙ not-false _ (b .before .if1 .left), sym (b .is-busy .ensures) ∙ c .if2 .taken)
+    rw (status-first, passes (d .before), sym (d .is-standing .ensures) ∙ not-false _ (b .before .if1 .left), sym (b .is-busy .ensures) ∙ c .if2 .taken)
 
 refused-requires-2 : tie.Need-refused-requires-2
 refused-requires-2 c κs = search needs
@@ -53,7 +53,7 @@ unfolding deliverAnswer
 returns-4 c =
     let b = c .before .before in
     let d = b .before .before in
-    rw (link-first, passes (d .before), sym (d .is-standing .ensures) ∙ not-false _ (b .before .if1 .left), sym (b .is-busy .ensures) ∙ c .before .if2 .left)
+    rw (status-first, passes (d .before), sym (d .is-standing .ensures) ∙ not-false _ (b .before .if1 .left), sym (b .is-busy .ensures) ∙ c .before .if2 .left)
     (c .refused2 .ensures)
 
 pub deliver-answer-spec : {M : Type 1} → statement M

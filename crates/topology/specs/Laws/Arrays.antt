@@ -15,7 +15,9 @@ use Rattle.mesh.specs.WellFormed.{link, InRange}
 use Rattle.ends.specs.Ends.{lowOf, highOf}
 use Rattle.mesh.specs.Parts.{endsOf, endsIn}
 use Rattle.flood.specs.Topology.{Topology}
-use Rattle.topology.specs.Backup.{underCut}
+use Rattle.wavelengths.specs.declared.Wavelength.{Wavelength}
+use Rattle.wavelengths.specs.declared.Wavelength.the-variants.{First, Second}
+use Rattle.topology.specs.Backup.{backupOn, underCut}
 use Rattle.topology.specs.Arrays.{tailBy, headBy, tailsInto, headsInto}
 
 module _ (m : Mesh) (p : Plan) (ranges : InRange m) where
@@ -34,25 +36,42 @@ module _ (m : Mesh) (p : Plan) (ranges : InRange m) where
   high : (i : ℕ) → highOf (endsOf (link m i)) ≡ link m i .high
   high i = let byte = ranges .links i .high in omega arith
 
-  tails-are : tailsInto (m .count) (endsIn m) (p .directions) (replicate 256 0) ≡ tableOf (backTail m p) (m .count)
-  tails-are = same tailBy (backTail m p) (λ i j. cond (eqb (at (p .directions) i) 0) (high i j) (low i j))
+  -- where the back-up arc of a link starts on wavelength 1 and ends on 2, and where it ends on 1 and starts on 2
+  one-end : (i : ℕ) → tailBy First (endsOf (link m i)) (at (p .directions) i) ≡ backTail m p i
+  one-end i = λ j. cond (eqb (at (p .directions) i) 0) (high i j) (low i j)
 
-  heads-are : headsInto (m .count) (endsIn m) (p .directions) (replicate 256 0) ≡ tableOf (backHead m p) (m .count)
-  heads-are = same headBy (backHead m p) (λ i j. cond (eqb (at (p .directions) i) 0) (low i j) (high i j))
+  other-end : (i : ℕ) → headBy First (endsOf (link m i)) (at (p .directions) i) ≡ backHead m p i
+  other-end i = λ j. cond (eqb (at (p .directions) i) 0) (low i j) (high i j)
 
-  pub under-cut-is : (k : ℕ) (tails heads starts : List ℕ) (source target : ℕ)
-      → tails ≡ tailsInto (m .count) (endsIn m) (p .directions) (replicate 256 0)
-      → heads ≡ headsInto (m .count) (endsIn m) (p .directions) (replicate 256 0)
-      → starts ≡ set (tailsInto (m .count) (endsIn m) (p .directions) (replicate 256 0)) k 255
-      → source ≡ at heads k → target ≡ at tails k
-      → _≡_ {A = Topology} (record { nodes = m .nodes; count = m .count; source = source; target = target; tails = tails; heads = heads; «open» = starts }) (underCut m p k)
-  unfolding underCut
-  under-cut-is k tails heads starts source target t h s x y = λ j. record {
-    nodes = m .nodes;
-    count = m .count;
-    source = (x ∙ ap (λ (l : List ℕ). at l k) (h ∙ heads-are)) j;
-    target = (y ∙ ap (λ (l : List ℕ). at l k) (t ∙ tails-are)) j;
-    tails = (t ∙ tails-are) j;
-    heads = (h ∙ heads-are) j;
-    «open» = (s ∙ ap (λ (l : List ℕ). set l k 255) tails-are) j;
-  }
+  tail-is : (w : Wavelength) (i : ℕ) → tailBy w (endsOf (link m i)) (at (p .directions) i) ≡ backupOn w m p .tail i
+  tail-is First = one-end
+  tail-is Second = other-end
+
+  head-is : (w : Wavelength) (i : ℕ) → headBy w (endsOf (link m i)) (at (p .directions) i) ≡ backupOn w m p .head i
+  head-is First = other-end
+  head-is Second = one-end
+
+  module _ (w : Wavelength) where
+    tails-are : tailsInto w (m .count) (endsIn m) (p .directions) (replicate 256 0) ≡ tableOf (backupOn w m p .tail) (m .count)
+    tails-are = same (tailBy w) (backupOn w m p .tail) (tail-is w)
+
+    heads-are : headsInto w (m .count) (endsIn m) (p .directions) (replicate 256 0) ≡ tableOf (backupOn w m p .head) (m .count)
+    heads-are = same (headBy w) (backupOn w m p .head) (head-is w)
+
+    pub under-cut-is : (k : ℕ) (tails heads : List ℕ) (source target : ℕ)
+        → tails ≡ tailsInto w (m .count) (endsIn m) (p .directions) (replicate 256 0)
+        → heads ≡ headsInto w (m .count) (endsIn m) (p .directions) (replicate 256 0)
+        → source ≡ at heads k → target ≡ at tails k
+        → _≡_ {A = Topology}
+        (record { nodes = m .nodes; count = m .count; source = source; target = target; tails = tails; heads = heads; «open» = set tails k 255 })
+        (underCut w m p k)
+    unfolding underCut
+    under-cut-is k tails heads source target t h x y = λ j. record {
+      nodes = m .nodes;
+      count = m .count;
+      source = (x ∙ ap (λ (l : List ℕ). at l k) (h ∙ heads-are)) j;
+      target = (y ∙ ap (λ (l : List ℕ). at l k) (t ∙ tails-are)) j;
+      tails = (t ∙ tails-are) j;
+      heads = (h ∙ heads-are) j;
+      «open» = set ((t ∙ tails-are) j) k 255;
+    }

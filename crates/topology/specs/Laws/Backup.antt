@@ -23,7 +23,9 @@ use Rattle.mesh.specs.Laws.Refused.{Sound, mesh-told}
 use Rattle.mesh.specs.Laws.Checked.{passes}
 use Rattle.flood.specs.Digraph.{cut}
 use Rattle.flood.specs.Topology.{digraphOf, failureOf}
-use Rattle.topology.specs.Backup.{backup, underCut}
+use Rattle.wavelengths.specs.declared.Wavelength.{Wavelength}
+use Rattle.wavelengths.specs.declared.Wavelength.the-variants.{First, Second}
+use Rattle.topology.specs.Backup.{backupOn, underCut}
 
 module _ (m : Mesh) (p : Plan) (good : meshAnswer m ≡ Accepted) where
   few : m .count ≤ 256
@@ -43,43 +45,63 @@ module _ (m : Mesh) (p : Plan) (good : meshAnswer m ≡ Accepted) where
     head-past : backHead m p i ≡ 0
     head-past = rw past zero
 
-  -- the arrays hold the ends of every arc
-  tails-at : (i : ℕ) → at (tableOf (backTail m p) (m .count)) i ≡ backTail m p i
-  tails-at = table-at (backTail m p) (m .count) few tail-past
+  -- both ends of a link are nodes, and 255 is none
+  module _ (k : ℕ) (below : k < m .count) where
+    low : link m k .low < 255
+    low = let P = passes m good in let end = P .low-below k below in let most = P .nodes-most in omega arith
 
-  heads-at : (i : ℕ) → at (tableOf (backHead m p) (m .count)) i ≡ backHead m p i
-  heads-at = table-at (backHead m p) (m .count) few head-past
+    high : link m k .high < 255
+    high = let P = passes m good in let end = P .high-below k below in let most = P .nodes-most in omega arith
 
-  module _ (k : ℕ) where
-    pub cut-digraph : digraphOf (underCut m p k) ≡ backup m p
-    unfolding digraphOf underCut
-    cut-digraph = λ j. record { nodes = m .nodes; links = all j; tail = λ i. tails-at i j; head = λ i. heads-at i j }
-      where
-        all : min (m .count) 256 ≡ m .count
-        all = omega (arith, few)
+    tail-node : backTail m p k < 255
+    tail-node = branch (λ (v : ℕ). v < 255) (eqb (at (p .directions) k) 0) (λ e. high) (λ e. low)
 
-    module _ (below : k < m .count) where
-      -- a tail is a node, and 255 is none
-      tail-below : backTail m p k < 255
-      tail-below =
-          let P = passes m good in
-          let low : link m k .low < m .nodes = P .low-below k below in
-          let high : link m k .high < m .nodes = P .high-below k below in
-          let most : m .nodes ≤ 64 = P .nodes-most in
-          branch (λ (v : ℕ). v < 255) (eqb (at (p .directions) k) 0) (λ e. omega arith) (λ e. omega arith)
+    head-node : backHead m p k < 255
+    head-node = branch (λ (v : ℕ). v < 255) (eqb (at (p .directions) k) 0) (λ e. low) (λ e. high)
 
-      -- only the open tail of link k is not its tail
-      blocked-only : (tails : List ℕ) → length tails ≡ 256 → at tails k ≡ backTail m p k
-          → (i : ℕ) → not (eqb (at (set tails k 255) i) (at tails i)) ≡ eqb i k
-      blocked-only tails sized same i =
-          let inside : k < length tails = omega (arith, few) in
-          let low : at tails k < 255 = rw same tail-below in
-          moved (set-at tails k 255 inside) (λ i v. not (eqb v (at tails i)) ≡ eqb i k) i
-          (rw (ne-eqb 255 (at tails k) (λ e. omega arith), eq-eqb k k refl))
-          (λ n. rw (eq-eqb (at tails i) (at tails i) refl, ne-eqb i k n))
+  -- the same on each wavelength
+  tail-past-on : (w : Wavelength) (i : ℕ) → m .count ≤ i → backupOn w m p .tail i ≡ 0
+  tail-past-on First = tail-past
+  tail-past-on Second = head-past
 
-      pub cut-failure : failureOf (underCut m p k) ≡ cut (backup m p) k
-      unfolding failureOf underCut
-      cut-failure =
-          let blocked = blocked-only (tableOf (backTail m p) (m .count)) (table-sized (backTail m p) (m .count)) (tails-at k) in
-          λ j. record { source = heads-at k j; target = tails-at k j; blocked = λ i. blocked i j }
+  head-past-on : (w : Wavelength) (i : ℕ) → m .count ≤ i → backupOn w m p .head i ≡ 0
+  head-past-on First = head-past
+  head-past-on Second = tail-past
+
+  tail-node-on : (w : Wavelength) (k : ℕ) → k < m .count → backupOn w m p .tail k < 255
+  tail-node-on First = tail-node
+  tail-node-on Second = head-node
+
+  module _ (w : Wavelength) where
+    -- the arrays hold the ends of every arc
+    tails-at : (i : ℕ) → at (tableOf (backupOn w m p .tail) (m .count)) i ≡ backupOn w m p .tail i
+    tails-at = table-at (backupOn w m p .tail) (m .count) few (tail-past-on w)
+
+    heads-at : (i : ℕ) → at (tableOf (backupOn w m p .head) (m .count)) i ≡ backupOn w m p .head i
+    heads-at = table-at (backupOn w m p .head) (m .count) few (head-past-on w)
+
+    module _ (k : ℕ) where
+      pub cut-digraph : digraphOf (underCut w m p k) ≡ backupOn w m p
+      unfolding digraphOf underCut
+      cut-digraph = λ j. record { nodes = m .nodes; links = all j; tail = λ i. tails-at i j; head = λ i. heads-at i j }
+        where
+          all : min (m .count) 256 ≡ m .count
+          all = omega (arith, few)
+
+      module _ (below : k < m .count) where
+        -- only the open tail of link k is not its tail
+        blocked-only : (tails : List ℕ) → length tails ≡ 256 → at tails k ≡ backupOn w m p .tail k
+            → (i : ℕ) → not (eqb (at (set tails k 255) i) (at tails i)) ≡ eqb i k
+        blocked-only tails sized same i =
+            let inside : k < length tails = omega (arith, few) in
+            let low : at tails k < 255 = rw same (tail-node-on w k below) in
+            moved (set-at tails k 255 inside) (λ i v. not (eqb v (at tails i)) ≡ eqb i k) i
+            (rw (ne-eqb 255 (at tails k) (λ e. omega arith), eq-eqb k k refl))
+            (λ n. rw (eq-eqb (at tails i) (at tails i) refl, ne-eqb i k n))
+
+        pub cut-failure : failureOf (underCut w m p k) ≡ cut (backupOn w m p) k
+        unfolding failureOf underCut
+        cut-failure =
+            let tail = backupOn w m p .tail in
+            let blocked = blocked-only (tableOf tail (m .count)) (table-sized tail (m .count)) (tails-at k) in
+            λ j. record { source = heads-at k j; target = tails-at k j; blocked = λ i. blocked i j }

@@ -1,10 +1,12 @@
--- `recovery::Session::cut` meets its contract: the answer says of the cut and of the flood whether they stay.
+-- `recovery::Session::cut` meets its contract: the answer says of the cut and of the floods whether they stay.
 use mathlib.Core.Path.{ap, _∙_}
 use borrow.Author.Needs.{needs}
 use Rattle.mesh.specs.declared.Answer.{Answer}
 use Rattle.flood.specs.Digraph.{cut}
-use Rattle.flood.specs.Machine.{begin}
+use Rattle.wavelengths.specs.declared.Wavelength.{Wavelength}
+use Rattle.wavelengths.specs.Merge.{begin}
 use Rattle.formed.specs.declared.Cut.the-variants as cuts
+use Rattle.recovery.specs.Session.{floods, sessionOf}
 use Rattle.recovery.specs.Calls.{digraph, cutOn, change, afterCut}
 use Rattle.recovery.specs.Pieces.{changeTo}
 use Rattle.recovery.specs.Laws.Calls.{change-chosen}
@@ -21,12 +23,12 @@ returns : tie.Need-returns
 unfolding afterCut
 returns c =
     let d = c .before in
-    let a = d .before .before .before .before .before .before .before .before .before .args in
+    let a = d .before .before .before .before .before .before .before .before .before .before .before .before .before .args in
     let s = a .self in
     let g = digraph s in
     let r = d .cut .result in
-    (λ i. changeTo (record { mesh = s .mesh; plan = s .plan; cut = c .cut-after .ensures i; flood = d .cut .ensures .flood i }) r)
-    ∙ change-chosen s (cuts.Link (a .link)) (begin g (cut g (a .link)) (s .flood)) r
+    (λ i. changeTo (sessionOf (s .mesh) (s .plan) (c .cut-after .ensures i) (d .cut .ensures .floods i)) r)
+    ∙ change-chosen s (cuts.Link (a .link)) (begin g (λ (w : Wavelength). cut (g w) (a .link)) (floods s)) r
     ∙ ap (λ (x : Answer). change x s (cutOn s (a .link))) (d .cut .ensures .answer)
 
 pub cut-spec : {M : Type 1} → statement M

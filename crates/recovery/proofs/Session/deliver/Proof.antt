@@ -13,8 +13,8 @@ delivery-answer-requires c κs = search needs
 returns : tie.Need-returns
 returns c =
     let d = c .before in
-    let a = d .before .before .before .before .before .before .before .before .before .args in
-    delivery-made (a .self) (a .link) _ _ (d .deliver .ensures) (c .delivery-answer .ensures)
+    let a = d .before .before .before .before .before .before .before .before .before .before .before .before .before .args in
+    delivery-made (a .self) (a .link) (a .wavelength) _ _ (d .deliver .ensures) (c .delivery-answer .ensures)
 
 pub deliver-spec : {M : Type 1} → statement M
 deliver-spec = tie.close (tie.spec deliver-requires delivery-answer-requires returns)

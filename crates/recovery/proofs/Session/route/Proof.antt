@@ -10,7 +10,8 @@ route-requires c κs = search needs
 returns : tie.Need-returns
 returns c =
     let d = c .before in
-    route-made (d .before .before .before .before .before .before .before .before .before .args .self) _ (d .route .ensures)
+    let a = d .before .before .before .before .before .before .before .before .before .before .before .before .before .args in
+    route-made (a .self) (a .wavelength) _ (d .route .ensures)
 
 pub route-spec : {M : Type 1} → statement M
 route-spec = tie.close (tie.spec route-requires returns)

@@ -13,7 +13,7 @@ run-report-requires c κs = search needs
 returns : tie.Need-returns
 returns c =
     let d = c .before in
-    let a = d .before .before .before .before .before .before .before .before .before .args in
+    let a = d .before .before .before .before .before .before .before .before .before .before .before .before .before .args in
     run-made (a .self) (a .allowance) _ _ (d .run .ensures) (c .run-report .ensures)
 
 pub run-spec : {M : Type 1} → statement M

@@ -14,8 +14,8 @@ link-status-requires c κs = search needs
 returns : tie.Need-returns
 returns c =
     let d = c .before in
-    let a = d .before .before .before .before .before .before .before .before .before .args in
-    c .link-status .ensures ∙ status-made (a .self) (a .link) _ (d .status .ensures)
+    let a = d .before .before .before .before .before .before .before .before .before .before .before .before .before .args in
+    c .link-status .ensures ∙ status-made (a .self) (a .link) (a .wavelength) _ (d .status .ensures)
 
 pub status-spec : {M : Type 1} → statement M
 status-spec = tie.close (tie.spec status-requires link-status-requires returns)
