@@ -1,4 +1,5 @@
--- 01's bench examples marked P, as rows of one table. Definitions only; the theorem over the table is `bench` of Main.
+-- 01's bench examples marked P, as rows of one table, which show wavelength 1 alone (02, request 2). Definitions only; the theorem over the table is `bench`
+-- of Main.
 use Prim.Native.Nat.{ℕ, zero, suc, _-_}
 use mathlib.Core.Bool.{Bool, true, cond}
 use lib.Dec.{eqb}
@@ -13,8 +14,11 @@ use Rattle.codec.specs.declared.Decoded.{Decoded}
 use Rattle.planner.specs.declared.Planned.{Planned}
 use Rattle.codec.specs.Book.{decoded}
 use Rattle.planner.specs.Plan.{padded, zeroPlan, planned}
-use Rattle.flood.specs.Machine.{order}
+use Rattle.wavelengths.specs.declared.Wavelength.the-variants.{First}
+use Rattle.wavelengths.specs.Wavelength.{wavelengthOf}
+use Rattle.wavelengths.specs.Merge.{Turn, turn, linksOn, order}
 use Rattle.recovery.specs.declared.Session.{Session}
+use Rattle.recovery.specs.Session.{floods}
 use Rattle.recovery.specs.declared.Delivered.the-variants.{Taken, TurnedBack, Released}
 use Rattle.recovery.specs.declared.Report.the-variants.{Made}
 use Rattle.recovery.specs.declared.Routed.{Routed}
@@ -53,28 +57,33 @@ routes = routedAs Accepted
 abbrev pub unrouted : ℕ → ℕ → Routed
 unrouted number place = routedAs (Refused number place) []
 
--- the links on which a call makes deliveries, in turn
-abbrev pub turnsOf : Call → Session → List ℕ
-turnsOf (cut w k) s = []
-turnsOf (deliver w k) s = cond (accepted (afterDelivery s k .answer)) (k ∷ []) []
-turnsOf (run n) s = order (digraph s) (failure s) n (s .flood)
-turnsOf (mend w k) s = []
-turnsOf (status k) s = []
+-- the deliveries that a call makes, in turn
+abbrev pub turnsOf : Call → Session → List Turn
+turnsOf (cut f k) s = []
+turnsOf (deliver f k u) s = cond (accepted (afterDelivery s k u .answer)) (turn k (wavelengthOf u) ∷ []) []
+turnsOf (run a) s = order (digraph s) (failure s) a (floods s)
+turnsOf (mend f k) s = []
+turnsOf (status k u) s = []
 
-unfoldable pub turns : List Call → Session → List ℕ
+unfoldable pub turns : List Call → Session → List Turn
 turns [] s = []
 turns (c ∷ cs) s = turnsOf c s ++ turns cs (next c s)
+
+-- the links of those on wavelength 1
+abbrev pub turnsOnFirst : List Call → Session → List ℕ
+turnsOnFirst cs s = linksOn First (turns cs s)
 
 -- the numbers below n that pass, rising
 unfoldable pub passing : (ℕ → Bool) → ℕ → List ℕ
 passing p zero = []
 passing p (suc n) = passing p n ++ cond (p n) (n ∷ []) []
 
--- the taken links
+-- the links taken on wavelength 1
 abbrev pub takenIn : Session → List ℕ
-takenIn s = passing (λ i. eqb (at (s .flood .states) i) 2) (s .mesh .count)
+takenIn s = passing (λ i. eqb (at (s .first .states) i) 2) (s .mesh .count)
 
--- calls on a session, each with its answer; the links on which they make deliveries, in turn; and at the end the taken links and what the route query gives
+-- calls on a session, each with its answer (a run's counts the deliveries on both wavelengths); on wavelength 1 the links on which they make deliveries, in
+-- turn, and at the end the taken links and what the route query gives
 pub record Recovery : Type 0 where
   pub answered : List Answered
   pub delivered : List ℕ
@@ -110,7 +119,7 @@ p1 =
 abbrev p2 : Row
 p2 =
     under p1 (record {
-      answered = (cut by-value 0, Accepted) ∷ (deliver by-value 1, Taken 2) ∷ (deliver by-value 2, Taken 1) ∷ [];
+      answered = (cut by-value 0, Accepted) ∷ (deliver by-value 1 1, Taken 2) ∷ (deliver by-value 2 1, Taken 1) ∷ [];
       delivered = 1 ∷ 2 ∷ [];
       taken = 1 ∷ 2 ∷ [];
       routing = routes (1 ∷ 2 ∷ []);
@@ -140,7 +149,7 @@ p5 =
 abbrev p6 : Row
 p6 =
     under p5 (record {
-      answered = (cut by-value 4, Accepted) ∷ (run 4294967295, Made 6 true) ∷ [];
+      answered = (cut by-value 4, Accepted) ∷ (run 4294967295, Made 12 true) ∷ [];
       delivered = 1 ∷ 2 ∷ 3 ∷ 0 ∷ 0 ∷ 3 ∷ [];
       taken = 1 ∷ 2 ∷ [];
       routing = routes (1 ∷ 2 ∷ []);
@@ -151,11 +160,11 @@ p7 =
     under p5 (record {
       answered =
           (cut by-value 4, Accepted)
-          ∷ (deliver by-value 3, Taken 1)
-          ∷ (deliver by-value 0, Taken 0)
-          ∷ (deliver by-value 2, Taken 3)
-          ∷ (deliver by-value 1, TurnedBack 0)
-          ∷ (deliver by-value 1, Released 2)
+          ∷ (deliver by-value 3 1, Taken 1)
+          ∷ (deliver by-value 0 1, Taken 0)
+          ∷ (deliver by-value 2 1, Taken 3)
+          ∷ (deliver by-value 1 1, TurnedBack 0)
+          ∷ (deliver by-value 1 1, Released 2)
           ∷ [];
       delivered = 3 ∷ 0 ∷ 2 ∷ 1 ∷ 1 ∷ [];
       taken = 0 ∷ 2 ∷ 3 ∷ [];
@@ -195,6 +204,6 @@ module _ (r : Row) where
     pub reads : decoded (r .book) ≡ r .reading
     pub plans : planned (decoded (r .book) .mesh) ≡ r .planning
     pub replies : answers callsOf startOf ≡ r .recovery .answered
-    pub delivers : turns callsOf startOf ≡ r .recovery .delivered
+    pub delivers : turnsOnFirst callsOf startOf ≡ r .recovery .delivered
     pub takes : takenIn endOf ≡ r .recovery .taken
-    pub routes : routed endOf ≡ r .recovery .routing
+    pub routes : routed endOf 1 ≡ r .recovery .routing

@@ -27,6 +27,8 @@ use Rattle.planner.specs.Plan.{netOf, planned}
 use Rattle.planner.specs.Meaning.{NoPath, LinkParts, FirstPlan}
 use Rattle.planner.specs.Laws.Meaning.{plan-refuses, plan-first, plan-numbers}
 use Rattle.mesh.specs.declared.Plan.{Plan}
+use Rattle.wavelengths.specs.declared.Wavelength.{Wavelength}
+use Rattle.wavelengths.specs.declared.Wavelength.the-variants as wavelengths
 use Rattle.formed.specs.declared.Cut.the-variants.{Link}
 use Rattle.recovery.specs.declared.Session.{Session}
 use Rattle.formed.specs.Formed.{startAnswer}
@@ -37,12 +39,15 @@ use Rattle.recovery.specs.Formed.{Formed, recordAnswer}
 use Rattle.recovery.specs.Laws.Forming.{record-formed, refused-record}
 use Rattle.recovery.specs.Calls.{digraph, routeOf}
 use Rattle.history.specs.History.{Call, reply, next, refused, refusedAt}
-use Rattle.history.specs.Demand.{Sized, CallFollows, Demand3, AtRest, OnePath, Measured, ended, log}
+use Rattle.history.specs.Log.{deliveriesOn}
+use Rattle.history.specs.Demand.{Sized, CallFollows, Demand3, AtRest, OnePath, Measured, hadOn, ended, log, Undisturbed, RunsAlone}
 use Rattle.history.specs.Laws.Refused.{refused-keeps, record-refusal-answers}
 use Rattle.history.specs.Laws.Ruled.{call-as-ruled}
 use Rattle.history.specs.Laws.Recovered.{demand-3}
 use Rattle.history.specs.Laws.Routed.{demand-route}
 use Rattle.history.specs.Laws.Measured.{demand-length}
+use Rattle.history.specs.Laws.Undisturbed.{undisturbed, runs-alone}
+use Rattle.history.specs.Laws.Counted.{had-made}
 use Rattle.guarantees.specs.Bench.{Row, table, Holds}
 use Rattle.guarantees.specs.Laws.Computed.{row-holds}
 
@@ -158,25 +163,48 @@ call-follows = call-as-ruled
 -- ---- demand 3, over every list of calls (contracts: crates/recovery/src/lib.rt, the calls of `Session`, and crates/in_place/src/lib.rt, those
 -- of them on a session that the host lends; crates/lists/src/lib.rt, `make_calls`, by which programs make such a list)
 
--- after any list of calls, by value and in place in any mix and refused ones included, from the session that a start on a planned mesh and its plan gives: at most 2 × (L - 1) deliveries
--- since the cut that stands, accepted exactly where a link is under way, at rest one simple path from x to y; the session and every answer are those
--- that 01's rules make of the list alone
+-- after any list of calls, by value and in place in any mix and refused ones included, from the session that a start on a planned mesh and its plan gives: on
+-- each wavelength alone, at most 2 × (L - 1) deliveries of its own since the cut that stands, accepted exactly where a link is under way on it, and with nothing
+-- under way on it, whatever the other does, one simple path from its x to its y; the session and every answer are those that 01's and 02's rules make of the
+-- list alone
 pub demand-three : (m : Mesh) → InRange m → planned m .answer ≡ Accepted → (calls : List Call) → Demand3 m calls
 demand-three m r = demand-3 m (r .entries)
 
--- and the route query then gives that path
+-- and the route query on that wavelength then gives that path
 pub demand-three-route : (m : Mesh) → InRange m → planned m .answer ≡ Accepted → (calls : List Call) (k : ℕ)
-    → log m calls .cut ≡ Link k → AtRest (ended m calls)
-    → OnePath (ended m calls) (digraph (ended m calls) .head k) (digraph (ended m calls) .tail k) (routeOf (ended m calls))
+    → log m calls .cut ≡ Link k → (w : Wavelength) → AtRest (ended m calls) w
+    → OnePath (ended m calls) w (digraph (ended m calls) w .head k) (digraph (ended m calls) w .tail k) (routeOf (ended m calls) w)
 demand-three-route m r = demand-route m (r .entries)
 
 -- ---- 02, request 1: the fibre length of the route, over every list of calls (contract: crates/recovery/src/lib.rt, `Session::status`)
 
--- at rest under a cut, after any list of calls: a status of any link answers, with no link under way, a route length that is known exactly where every
--- link that the route query gives is measured, and is then the sum of their lengths. By `demand-three-route` these links are the one simple path
+-- at rest on both wavelengths under a cut, after any list of calls: a status of any link on either wavelength answers, with no link under way, a route length
+-- that is known exactly where every link that the route query on that wavelength gives is measured, and is then the sum of their lengths. By
+-- `demand-three-route` these links are the one simple path
 pub demand-three-length : (m : Mesh) → InRange m → planned m .answer ≡ Accepted → (calls : List Call) (k : ℕ)
-    → log m calls .cut ≡ Link k → AtRest (ended m calls) → Measured (ended m calls)
+    → log m calls .cut ≡ Link k → ((w : Wavelength) → AtRest (ended m calls) w) → (w : Wavelength) → Measured (ended m calls) w
 demand-three-length m r = demand-length m (r .entries)
+
+-- ---- 02, request 2: the other wavelength, over every list of calls
+
+-- on wavelength 2 the ends of a link's primary arc change places
+pub ends-exchanged : (s : Session) (k : ℕ) → (digraph s wavelengths.Second .head k ≡ digraph s wavelengths.First .tail k) × (digraph s wavelengths.Second .tail k ≡ digraph s wavelengths.First .head k)
+ends-exchanged s k = (refl, refl)
+
+-- the wavelengths do not disturb each other: what a list makes of one wavelength, its states, its reached nodes and its deliveries in order, is what its calls
+-- on that wavelength alone make
+pub wavelengths-undisturbed : (m : Mesh) → InRange m → planned m .answer ≡ Accepted → (calls : List Call) (w : Wavelength) → Undisturbed m calls w
+wavelengths-undisturbed m r = undisturbed m (r .entries)
+
+-- a run's deliveries on one wavelength, taken alone, are those of a run of that wavelength
+pub run-alone : (m : Mesh) → InRange m → planned m .answer ≡ Accepted → (calls : List Call) (w : Wavelength) (a : ℕ) → RunsAlone m calls w a
+run-alone m r = runs-alone m (r .entries)
+
+-- the states of a wavelength's links tell how many deliveries were made on it since the cut: so `meshplan` counts those of wavelength 1 (contract:
+-- crates/clients/src/session.rt, `recover`; its number by the list of calls: crates/clients/specs/Laws/Shown.antt)
+pub deliveries-told : (m : Mesh) → InRange m → planned m .answer ≡ Accepted → (calls : List Call) (k : ℕ)
+    → log m calls .cut ≡ Link k → (w : Wavelength) → hadOn (ended m calls) w ≡ deliveriesOn w (log m calls)
+deliveries-told m r = had-made m (r .entries)
 
 -- ---- 01's bench examples marked P
 

@@ -1,75 +1,102 @@
--- Demand 2's promise for one call on any session, and demand 3's for a planned mesh and any list of calls, each as one statement. Definitions only.
+-- Demand 2's promise for one call on any session, and demand 3's for a planned mesh and any list of calls, each as one statement, read for each wavelength
+-- alone (02, request 2). Definitions only.
 use Prim.Native.Nat.{ℕ, _*_, _-_, _<_, _≤_}
 use mathlib.Core.Path.{_≡_}
 use mathlib.Core.Logic.{_⊎_, _↔_}
 use mathlib.Core.Bool.{true}
-use mathlib.Core.List.{List, _∷_, _++_, map, List·Memᴰ}
+use mathlib.Core.List.{List, [], _∷_, _++_, map, List·Memᴰ}
 use lib.ListN.{length}
 use Rattle.scan.specs.Entry.{at, has}
 use Rattle.scan.specs.Distinct.{Distinct}
+use Rattle.scan.specs.Total.{total}
 use Rattle.metres.specs.Length.{LengthAlong}
 use Rattle.flood.specs.Digraph.{Digraph}
+use Rattle.flood.specs.Machine as machine
+use Rattle.flood.specs.Machine.{weight}
 use Rattle.flood.specs.Path.{Chain}
+use Rattle.wavelengths.specs.declared.Wavelength.{Wavelength}
+use Rattle.wavelengths.specs.Wavelength.{numberOf, on}
 use Rattle.mesh.specs.declared.Mesh.{Mesh}
 use Rattle.mesh.specs.declared.Answer.the-variants.{Accepted}
 use Rattle.mesh.specs.WellFormed.{lengths}
 use Rattle.planner.specs.Plan.{planned}
-use Rattle.formed.specs.declared.Cut.the-variants.{Link}
+use Rattle.formed.specs.declared.Cut.{Cut}
+use Rattle.formed.specs.declared.Cut.the-variants.{Nothing, Link}
 use Rattle.recovery.specs.declared.Session.{Session}
+use Rattle.recovery.specs.Session.{floods}
 use Rattle.recovery.specs.declared.Status.the-variants as statuses
 use Rattle.recovery.specs.Formed.{recordAnswer}
 use Rattle.topology.specs.Backup.{backup}
-use Rattle.recovery.specs.Calls.{digraph, started, afterDelivery, routeLengthOf, routeOf, routedAs, routed}
-use Rattle.history.specs.History.{Call, Log, status, reply, next, after, answers, accepted, emptyLog, logged}
+use Rattle.recovery.specs.Calls.{digraph, failure, started, afterDelivery, routeLengthOf, routeOf, routedAs, routed}
+use Rattle.history.specs.History.{Call, by-value, cut, deliver, run, status, reply, next, after, answers, accepted}
 use Rattle.history.specs.Rules.{Now, start, ruleNext, ruleReply, ruled}
+use Rattle.history.specs.Log.{Log, emptyLog, madeOn, deliveriesOn, logged}
 
-module _ (s : Session) where
+-- ---- a session on one wavelength
+
+module _ (s : Session) (w : Wavelength) where
+  -- the state of each link
+  abbrev pub stateOn : ℕ → ℕ
+  stateOn = at (on w (floods s) .states)
+
   -- link i is under way; none is; link i is taken
   abbrev pub UnderWay : ℕ → Type 0
-  UnderWay i = (i < s .mesh .count) × ((at (s .flood .states) i ≡ 1) ⊎ (at (s .flood .states) i ≡ 3))
+  UnderWay i = (i < s .mesh .count) × ((stateOn i ≡ 1) ⊎ (stateOn i ≡ 3))
 
   abbrev pub AtRest : Type 0
   AtRest = (i : ℕ) → ¬ UnderWay i
 
   abbrev pub Taken : ℕ → Type 0
-  Taken i = (i < s .mesh .count) × (at (s .flood .states) i ≡ 2)
+  Taken i = (i < s .mesh .count) × (stateOn i ≡ 2)
 
   -- one simple path: all taken links, each once, stand in a row whose back-up arcs lead from x to y, each starting where the one before
   -- ended, and no node is met twice
   pub record OnePath (x y : ℕ) (row : List ℕ) : Type 0 where
     pub all-taken : (i : ℕ) → List·Memᴰ i row ↔ Taken i
     pub each-once : Distinct row
-    pub in-a-row : Chain (digraph s) x row y
-    pub no-node-twice : Distinct (x ∷ map (digraph s .head) row)
+    pub in-a-row : Chain (digraph s w) x row y
+    pub no-node-twice : Distinct (x ∷ map (digraph s w .head) row)
 
-  -- after a cut of link k, whose primary arc leads from x, where its back-up arc ends, to y, where that starts, and n accepted deliveries
+  -- after a cut of link k, whose primary arc leads from x, where its back-up arc ends, to y, where that starts, and n accepted deliveries. On wavelength 2
+  -- the arcs are turned round, so that x and y change places
   pub record Recovers (k n : ℕ) : Type 0 where
     pub at-most : n ≤ 2 * (s .mesh .count - 1)
     pub used-up : n ≡ 2 * (s .mesh .count - 1) → AtRest
-    pub further : (i : ℕ) → (accepted (afterDelivery s i .answer) ≡ true) ↔ UnderWay i
-    pub route : AtRest → (row : List ℕ) × OnePath (digraph s .head k) (digraph s .tail k) row
+    pub further : (i : ℕ) → (accepted (afterDelivery s i (numberOf w) .answer) ≡ true) ↔ UnderWay i
+    pub route : AtRest → (row : List ℕ) × OnePath (digraph s w .head k) (digraph s w .tail k) row
 
-  -- at rest under a cut: the route query is accepted; status accepts every link and answers its state, that none is under way, and a route length, which
-  -- is that of the links that the route query gives
+  -- at rest on both wavelengths under a cut: the route query is accepted; status accepts every link and answers its state, that none is under way, and a
+  -- route length, which is that of the links that the route query gives
   pub record Measured : Type 0 where
-    pub given : routed s ≡ routedAs Accepted (routeOf s)
-    pub told : (j : ℕ) → j < s .mesh .count → reply (status j) s ≡ statuses.Link (at (s .flood .states) j) 0 (routeLengthOf s)
-    pub length : LengthAlong (lengths (s .mesh)) (routeOf s) (routeLengthOf s)
+    pub given : routed s (numberOf w) ≡ routedAs Accepted (routeOf s w)
+    pub told : (j : ℕ) → j < s .mesh .count → reply (status j (numberOf w)) s ≡ statuses.Link (stateOn j) 0 (routeLengthOf s w)
+    pub length : LengthAlong (lengths (s .mesh)) (routeOf s w) (routeLengthOf s w)
 
-  -- the session has the cut, the states and the reached nodes that the rules make
+  -- how many deliveries the links have had, by their states
+  abbrev pub hadOn : ℕ
+  hadOn = total (λ i. weight (stateOn i)) (s .mesh .count)
+
+-- ---- a session in the words of the rules
+
+module _ (s : Session) where
+  -- the session has the cut, and on each wavelength the states and the reached nodes, that the rules make
   pub record Follows (n : Now) : Type 0 where
     pub cut : s .cut ≡ n .cut
-    pub state : (i : ℕ) → at (s .flood .states) i ≡ n .state i
-    pub reached : (v : ℕ) → has (s .flood .reached) v ≡ n .reached v
+    pub state : (w : Wavelength) (i : ℕ) → stateOn s w i ≡ n .on w .state i
+    pub reached : (w : Wavelength) (v : ℕ) → has (on w (floods s) .reached) v ≡ n .on w .reached v
 
   -- the lengths of a session's states and reached nodes, which the types of its record ensure: every session that a function is given has them
   pub record Sized : Type 0 where
-    pub states : length (s .flood .states) ≡ 256
-    pub reached : length (s .flood .reached) ≡ 64
+    pub states : (w : Wavelength) → length (on w (floods s) .states) ≡ 256
+    pub reached : (w : Wavelength) → length (on w (floods s) .reached) ≡ 64
 
-  -- what the session holds, in the words of the rules: the cut link or none, the state of each link, and which nodes are reached
+  -- what the session holds: the cut link or none, and on each wavelength the state of each link, and which nodes are reached
   abbrev pub seen : Now
-  seen = record { cut = s .cut; state = at (s .flood .states); reached = has (s .flood .reached) }
+  seen = record { cut = s .cut; on = λ w. record { state = stateOn s w; reached = has (on w (floods s) .reached) } }
+
+  -- the back-up digraph of wavelength 1, from which the rules go
+  abbrev pub arcs : Digraph
+  arcs = backup (s .mesh) (s .plan)
 
 -- ---- one call
 
@@ -78,9 +105,9 @@ pub record CallFollows (s : Session) (c : Call) : Type 0 where
   -- the session that it returns or leaves holds the same mesh and plan, and the cut, states and reached nodes that the rules make of those in s
   pub mesh : next c s .mesh ≡ s .mesh
   pub plan : next c s .plan ≡ s .plan
-  pub follows : Follows (next c s) (ruleNext (digraph s) c (seen s))
+  pub follows : Follows (next c s) (ruleNext (arcs s) c (seen s))
   -- it answers what the rules give
-  pub answered : reply c s ≡ ruleReply (digraph s) (lengths (s .mesh)) c (seen s)
+  pub answered : reply c s ≡ ruleReply (arcs s) (lengths (s .mesh)) c (seen s)
 
 -- ---- a list of calls
 
@@ -93,12 +120,12 @@ abbrev pub digraphOn : Mesh → Digraph
 digraphOn m = backup m (planned m .plan)
 
 module _ (m : Mesh) (calls : List Call) where
-  -- the session after the calls; the cut that stands by their answers, and the deliveries accepted since
+  -- the session after the calls; the cut that stands by their answers, and the deliveries accepted since, in order
   abbrev pub ended : Session
   ended = after calls (startedOn m)
 
   abbrev pub log : Log
-  log = logged (answers calls (startedOn m)) emptyLog
+  log = logged (digraphOn m) (answers calls (startedOn m)) start emptyLog
 
   pub record Demand3 : Type 0 where
     -- the start is accepted, and no call is refused for its record
@@ -111,6 +138,32 @@ module _ (m : Mesh) (calls : List Call) where
     -- each call answers what the rules give after the calls before it
     pub answered : (first : List Call) (c : Call) (rest : List Call) → calls ≡ first ++ (c ∷ rest)
         → reply c (after first (startedOn m)) ≡ ruleReply (digraphOn m) (lengths m) c (ruled (digraphOn m) first start)
-    -- the cut that stands by the answers is the session's, and under it the session recovers
+    -- the cut that stands by the answers is the session's, and under it the session recovers on each wavelength, by the deliveries of its own
     pub cut : ended .cut ≡ log .cut
-    pub recovers : (k : ℕ) → log .cut ≡ Link k → Recovers ended k (log .deliveries)
+    pub recovers : (k : ℕ) → log .cut ≡ Link k → (w : Wavelength) → Recovers ended w k (deliveriesOn w log)
+
+-- ---- the wavelengths do not disturb each other
+
+-- the cut that stands, and a delivery call on wavelength w for each delivery made on it since, in order
+abbrev pub callsOn : Wavelength → Cut → List ℕ → List Call
+callsOn w (Link k) js = cut by-value k ∷ map (λ (j : ℕ). deliver by-value j (numberOf w)) js
+callsOn w Nothing js = []
+
+module _ (m : Mesh) (calls : List Call) (w : Wavelength) where
+  -- the calls of the list on wavelength w alone
+  abbrev pub alone : List Call
+  alone = callsOn w (log m calls .cut) (madeOn w (log m calls))
+
+  -- what the list makes of wavelength w, its states, reached nodes and deliveries in order, is what its calls on that wavelength alone make
+  pub record Undisturbed : Type 0 where
+    pub same-cut : log m alone .cut ≡ log m calls .cut
+    pub same-flood : on w (floods (ended m alone)) ≡ on w (floods (ended m calls))
+    pub same-deliveries : madeOn w (log m alone) ≡ madeOn w (log m calls)
+
+  -- a run with the allowance a after the list makes on wavelength w, in order, the deliveries that a run of that wavelength alone makes with some
+  -- allowance n, which are at most a
+  pub record RunsAlone (a : ℕ) : Type 0 where
+    pub n : ℕ
+    pub most : n ≤ a
+    pub same : madeOn w (log m (calls ++ (run a ∷ [])))
+        ≡ madeOn w (log m calls) ++ machine.order (digraph (ended m calls) w) (failure (ended m calls) w) n (on w (floods (ended m calls)))

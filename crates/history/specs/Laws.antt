@@ -1,4 +1,5 @@
 pub mod Backup
+pub mod Counted
 pub mod Kept
 pub mod Recovered
 pub mod Refused
@@ -12,4 +13,5 @@ pub mod RuledRun
 pub mod RuledSteps
 pub mod RuledTests
 pub mod Started
+pub mod Undisturbed
 pub mod Wording

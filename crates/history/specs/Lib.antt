@@ -1,4 +1,5 @@
 pub mod History
 pub mod Rules
+pub mod Log
 pub mod Demand
 pub mod Laws

@@ -13,16 +13,18 @@ use Rattle.codec.specs.Book.{headerAnswer, recordsAnswer, linksOf, bookAnswer, 
 use Rattle.planner.specs.Plan.{planAnswer, planned}
 use Rattle.scan.specs.Sweep.{sweep, sweepFrom}
 use Rattle.scan.specs.Total.{total, count}
-use Rattle.flood.specs.Machine.{fresh, underWay, live, offer, feeds, first, some, atRest, accepts, leaves, opens, begin, arrive, retreat, withdraw, step, play, order}
-use Rattle.flood.specs.Machine.{holds as holds′, accepted as deliveredCount, run as machineRun}
+use Rattle.flood.specs.Machine as machine
+use Rattle.flood.specs.Machine.{fresh, underWay, live, offer, feeds, first, some, leaves, opens, arrive, retreat, withdraw}
+use Rattle.flood.specs.Machine.{holds as holds′}
+use Rattle.wavelengths.specs.Merge.{linksOn, busy, atRest, accepts, next, begin, step, play, accepted, order, run}
 use Rattle.faults.specs.Faults.{isOver, overflows, isStray, strays}
-use Rattle.formed.specs.Formed.{planFault, floodFault, startAnswer}
+use Rattle.formed.specs.Formed.{planFault, floodFault, floodsFault, startAnswer}
 use Rattle.formed.specs.Formed.{recordAnswer as recordSession}
-use Rattle.refusals.specs.Refusals.{cutAnswer, deliverAnswer, runAnswer}
+use Rattle.refusals.specs.Refusals.{cutAnswer, deliverAnswer, runAnswer, routeAnswer}
 use Rattle.recovery.specs.Calls.{started, afterCut, afterDelivery, afterRun, routeOf, routed}
 use Rattle.flood.specs.Topology.{carries, routeFrom}
 use Rattle.history.specs.History.{after}
-use Rattle.guarantees.specs.Bench.{Row, table, turns, passing, takenIn, callsOf, startOf, endOf, Holds}
+use Rattle.guarantees.specs.Bench.{Row, table, turns, turnsOnFirst, passing, takenIn, callsOf, startOf, endOf, Holds}
 use Rattle.guarantees.specs.Laws.Same.{sameDecoded, same-decoded, samePlanned, same-planned, sameNumbers, same-numbers}
 use Rattle.guarantees.specs.Laws.Same.{sameReplies, same-replies, sameRouted, same-routed}
 
@@ -32,9 +34,9 @@ holds r =
     sameDecoded (decoded (r .book)) (r .reading)
     && (samePlanned (planned (decoded (r .book) .mesh)) (r .planning)
     && (sameReplies (r .recovery .answered) (startOf r)
-    && (sameNumbers (turns (callsOf r) (startOf r)) (r .recovery .delivered)
+    && (sameNumbers (turnsOnFirst (callsOf r) (startOf r)) (r .recovery .delivered)
     && (sameNumbers (takenIn (endOf r)) (r .recovery .taken)
-    && sameRouted (routed (endOf r)) (r .recovery .routing)))))
+    && sameRouted (routed (endOf r) 1) (r .recovery .routing)))))
 
 abbrev allHold : List Row → Bool
 allHold [] = true
@@ -51,9 +53,9 @@ computed : allHold table ≡ true
 unfolding decoded bookAnswer headerAnswer recordsAnswer recordAnswer recordLength linkOf linksOf meshOf endsAnswer
     planned planAnswer meshAnswer linksAnswer allZero lowest lowestFrom any every unreached parts connects reaches reached rounds markLinks markLink markWay
     plan firstThat assignments
-    started startAnswer planFault floodFault overflows isOver strays isStray recordSession afterCut cutAnswer afterDelivery deliverAnswer afterRun runAnswer
-    turns passing after fresh begin offer sweep sweepFrom leaves opens step arrive withdraw retreat accepts underWay live holds′ feeds first some atRest
-    order play deliveredCount machineRun total count carries routeFrom routeOf routed
+    started startAnswer planFault floodFault floodsFault overflows isOver strays isStray recordSession afterCut cutAnswer afterDelivery deliverAnswer afterRun runAnswer
+    turns passing after fresh machine.begin offer sweep sweepFrom leaves opens machine.step arrive withdraw retreat machine.accepts underWay live holds′ feeds first some
+    machine.atRest linksOn busy atRest accepts next begin step play accepted order run total count carries routeFrom routeOf routeAnswer routed
 computed = refl
 
 pub row-holds : (r : Row) → List·Memᴰ r table → Holds r
@@ -62,13 +64,13 @@ row-holds r o =
     let (read, e1) = and-eq-true-iff (sameDecoded (decoded (r .book)) (r .reading)) _ .0 (each table computed r o) in
     let (plan, e2) = and-eq-true-iff (samePlanned (planned m) (r .planning)) _ .0 e1 in
     let (said, e3) = and-eq-true-iff (sameReplies (r .recovery .answered) (startOf r)) _ .0 e2 in
-    let (turn, e4) = and-eq-true-iff (sameNumbers (turns (callsOf r) (startOf r)) (r .recovery .delivered)) _ .0 e3 in
+    let (turn, e4) = and-eq-true-iff (sameNumbers (turnsOnFirst (callsOf r) (startOf r)) (r .recovery .delivered)) _ .0 e3 in
     let (took, path) = and-eq-true-iff (sameNumbers (takenIn (endOf r)) (r .recovery .taken)) _ .0 e4 in
     record {
       reads = same-decoded (decoded (r .book)) (r .reading) read;
       plans = same-planned (planned m) (r .planning) plan;
       replies = same-replies (r .recovery .answered) (startOf r) said;
-      delivers = same-numbers (turns (callsOf r) (startOf r)) (r .recovery .delivered) turn;
+      delivers = same-numbers (turnsOnFirst (callsOf r) (startOf r)) (r .recovery .delivered) turn;
       takes = same-numbers (takenIn (endOf r)) (r .recovery .taken) took;
-      routes = same-routed (routed (endOf r)) (r .recovery .routing) path;
+      routes = same-routed (routed (endOf r) 1) (r .recovery .routing) path;
     }

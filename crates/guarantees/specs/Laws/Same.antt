@@ -174,18 +174,18 @@ same-status = same-coded statusNumbers back inverse
     inverse (statuses.Refused number place) = refl
 
 abbrev sameReply : (c : Call) → Reply c → Reply c → Bool
-sameReply (cut w k) a b = sameAnswer a b
-sameReply (deliver w k) a b = sameNumbers (deliveredNumbers a) (deliveredNumbers b)
+sameReply (cut f k) a b = sameAnswer a b
+sameReply (deliver f k u) a b = sameNumbers (deliveredNumbers a) (deliveredNumbers b)
 sameReply (run n) a b = sameNumbers (reportNumbers a) (reportNumbers b)
-sameReply (mend w k) a b = sameAnswer a b
-sameReply (status k) a b = sameNumbers (statusNumbers a) (statusNumbers b)
+sameReply (mend f k) a b = sameAnswer a b
+sameReply (status k u) a b = sameNumbers (statusNumbers a) (statusNumbers b)
 
 same-reply : (c : Call) (a b : Reply c) → sameReply c a b ≡ true → a ≡ b
-same-reply (cut w k) = same-answer
-same-reply (deliver w k) = same-delivered
-same-reply (run n) = same-report
-same-reply (mend w k) = same-answer
-same-reply (status k) = same-status
+same-reply (cut f k) = same-answer
+same-reply (deliver f k u) = same-delivered
+same-reply (run a) = same-report
+same-reply (mend f k) = same-answer
+same-reply (status k u) = same-status
 
 -- the answers to calls, each made on the session as the one before returned or left it
 abbrev pub sameReplies : List Answered → Session → Bool

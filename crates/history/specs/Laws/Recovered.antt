@@ -1,6 +1,6 @@
--- Demand 3: from what every call keeps follow the record tests, the bounds and the path, and from the record tests that the session follows the rules.
--- Assumes 256 entries in the mesh's list of links.
-use Prim.Native.Nat.{ℕ, _<_}
+-- Demand 3: from what every call keeps follow the record tests, the bounds and the path of each wavelength, and from the record tests that the session
+-- follows the rules. Assumes 256 entries in the mesh's list of links.
+use Prim.Native.Nat.{ℕ}
 use mathlib.Core.Path.{_≡_, refl, sym, ap, subst}
 use mathlib.Core.Logic.{⊎-elim, _↔_}
 use mathlib.Core.Bool.{true}
@@ -8,12 +8,13 @@ use mathlib.Core.List.{List, _∷_, _++_}
 use lib.ListN.{length}
 use Rattle.scan.specs.Test.{clash}
 use Rattle.scan.specs.Entry.{at}
-use Rattle.flood.specs.declared.Flood.{Flood}
-use Rattle.flood.specs.Digraph as failures
-use Rattle.flood.specs.Machine.{step}
 use Rattle.flood.specs.Laws.Tests.{accepts-says, at-rest-says}
-use Rattle.flood.specs.Laws.Progress.{Progress}
 use Rattle.flood.specs.Laws.Cut.{cut-made, cut-made-rest}
+use Rattle.wavelengths.specs.declared.Floods.{Floods}
+use Rattle.wavelengths.specs.declared.Wavelength.{Wavelength}
+use Rattle.wavelengths.specs.Wavelength.{isWavelength, wavelengthOf, numberOf, on}
+use Rattle.wavelengths.specs.Merge.{Turn, turn, linksOn, step}
+use Rattle.wavelengths.specs.Laws.Wavelength.{wavelength-named}
 use Rattle.mesh.specs.declared.Mesh.{Mesh}
 use Rattle.mesh.specs.declared.Plan.{Plan}
 use Rattle.mesh.specs.declared.Answer.{Answer}
@@ -22,49 +23,61 @@ use Rattle.mesh.specs.WellFormed.{lengths}
 use Rattle.planner.specs.Plan.{planned}
 use Rattle.recovery.specs.declared.Change.{Change}
 use Rattle.recovery.specs.declared.Session.{Session}
+use Rattle.recovery.specs.Session.{floods}
 use Rattle.recovery.specs.Formed.{recordAnswer}
-use Rattle.topology.specs.Backup.{backup}
 use Rattle.refusals.specs.Refusals.{standing}
 use Rattle.recovery.specs.Calls.{digraph, failure, freshOn, deliveryAs, deliverAnswer, afterDelivery, routeOf}
+use Rattle.recovery.specs.Laws.Tested.{deliver-accepts, deliver-accepted}
 use Rattle.history.specs.History.{Call, reply, after, accepted}
 use Rattle.history.specs.Rules.{start, ruled, ruleReply}
 use Rattle.history.specs.Demand.{UnderWay, Recovers, Follows, startedOn, digraphOn, Demand3}
-use Rattle.recovery.specs.Laws.Tested.{deliver-accepts, deliver-accepted}
-use Rattle.history.specs.Laws.Kept.{cutSession, under, acted-accepted, kept-holds, kept-cut}
-use Rattle.history.specs.Laws.Started.{started-fresh, kept-record, strong, ended-kept}
+use Rattle.history.specs.Laws.Kept.{cutSession, played, Since, under, acted-accepted, kept-holds, kept-cut}
+use Rattle.history.specs.Laws.Started.{started-fresh, progress, kept-record, ended-kept}
 use Rattle.history.specs.Laws.Routed.{rest-path}
 use Rattle.history.specs.Laws.RuledNext.{fresh-sized}
 use Rattle.history.specs.Laws.Ruled.{Passing, fresh-follows, list-follows, list-answers}
 
--- a further delivery is accepted just where its link is under way
-further : (s : Session) → recordAnswer s ≡ Accepted → standing (s .cut) ≡ true → (i : ℕ) → (accepted (afterDelivery s i .answer) ≡ true) ↔ UnderWay s i
-unfolding afterDelivery
-further s r c i = (
-  λ t. by-answer (deliverAnswer s i) refl t,
-  λ u. rw (deliver-accepts s i r c (accepts-says (digraph s) i (s .flood) .1 u)) (acted-accepted (digraph s .tail i) (digraph s .head i) (at (f .states) i)),
-)
-  where
-    f : Flood
-    f = step (digraph s) (failure s) i (s .flood)
+-- a further delivery is accepted just where its link is under way on the wavelength that its number names
+module _ (s : Session) (u : ℕ) where
+  abbrev w : Wavelength
+  w = wavelengthOf u
 
-    by-answer : (a : Answer) → deliverAnswer s i ≡ a → accepted (deliveryAs a s i f .answer) ≡ true → UnderWay s i
-    by-answer Accepted e t = accepts-says (digraph s) i (s .flood) .0 (deliver-accepted s i e .3)
-    by-answer (Refused number place) e t = clash t refl
+  further-named : isWavelength u ≡ true → recordAnswer s ≡ Accepted → standing (s .cut) ≡ true → (i : ℕ)
+      → (accepted (afterDelivery s i u .answer) ≡ true) ↔ UnderWay s w i
+  unfolding afterDelivery
+  further-named named r c i = (
+    λ t. by-answer (deliverAnswer s i u) refl t,
+    λ t. rw (deliver-accepts s i u r named c (accepts-says (digraph s w) i (on w (floods s)) .1 t)) (acted-accepted (digraph s w .tail i) (digraph s w .head i) (at (on w later .states) i)),
+  )
+    where
+      later : Floods
+      later = step (digraph s) (failure s) (turn i w) (floods s)
+
+      by-answer : (a : Answer) → deliverAnswer s i u ≡ a → accepted (deliveryAs a s i w later .answer) ≡ true → UnderWay s w i
+      by-answer Accepted e t = accepts-says (digraph s w) i (on w (floods s)) .0 (deliver-accepted s i u e .4)
+      by-answer (Refused number place) e t = clash t refl
+
+further : (s : Session) (w : Wavelength) → recordAnswer s ≡ Accepted → standing (s .cut) ≡ true → (i : ℕ)
+    → (accepted (afterDelivery s i (numberOf w) .answer) ≡ true) ↔ UnderWay s w i
+further s w r c i =
+    let (named, is) = wavelength-named w in
+    subst (λ (v : Wavelength). (accepted (afterDelivery s i (numberOf w) .answer) ≡ true) ↔ UnderWay s v i) is (further-named s (numberOf w) named r c i)
 
 module _ (m : Mesh) (good : planned m .answer ≡ Accepted) where
   abbrev p : Plan
   p = planned m .plan
 
-  -- under a cut the session recovers
-  recovers : length (m .links) ≡ 256 → (k n : ℕ) (f : Flood) → k < m .count
-      → Progress (backup m p) (failures.cut (backup m p) k) n f → Recovers (cutSession m p k f) k n
-  recovers sized k n f b q =
-      let s : Session = cutSession m p k f in
+  -- under a cut the session recovers on each wavelength
+  recovers : length (m .links) ≡ 256 → (k : ℕ) (ts : List Turn) → Since m p k ts → (w : Wavelength)
+      → Recovers (cutSession m p k (played m p k ts)) w k (length (linksOn w ts))
+  recovers sized k ts q w =
+      let s : Session = cutSession m p k (played m p k ts) in
+      let f = progress m good sized q w in
       record {
-        at-most = cut-made b q;
-        used-up = λ e i (l, u). let (a, b) = at-rest-says (digraph s) f .0 (cut-made-rest b q e) i l in ⊎-elim a b u;
-        further = further s (kept-record m good (under b q)) refl;
-        route = λ r. (routeOf s, rest-path m p (strong m good sized) k n f b q r);
+        at-most = cut-made (q .link) f;
+        used-up = λ e i (l, u). let (a, b) = at-rest-says (digraph s w) (on w (floods s)) .0 (cut-made-rest (q .link) f e) i l in ⊎-elim a b u;
+        further = further s w (kept-record m good sized (under q)) refl;
+        route = λ r. (routeOf s w, rest-path m sized good q w r);
       }
 
   -- a session follows the rules where it passes its record tests
@@ -85,7 +98,7 @@ pub demand-3 : (m : Mesh) → length (m .links) ≡ 256 → planned m .answer �
 demand-3 m sized good calls =
     let p : Plan = planned m .plan in
     let kept = ended-kept m good sized calls in
-    let passing : Passing calls (startedOn m) = λ first rest e. kept-record m good (ended-kept m good sized first) in
+    let passing : Passing calls (startedOn m) = λ first rest e. kept-record m good sized (ended-kept m good sized first) in
     let (follows, answered) = started-ruled m good calls passing in
     record {
       starts = ap (λ (r : Change). r .answer) (started-fresh m good);
@@ -95,5 +108,5 @@ demand-3 m sized good calls =
       follows = follows;
       answered = answered;
       cut = kept-holds m p kept .2;
-      recovers = kept-cut m p Recovers (recovers m good sized) kept;
+      recovers = kept-cut m p (λ s k ts. (w : Wavelength) → Recovers s w k (length (linksOn w ts))) (recovers m good sized) kept;
     }

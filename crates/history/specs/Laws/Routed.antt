@@ -1,5 +1,6 @@
--- At rest under a cut the taken links are one simple path, the flood's route, and the route query gives it. Assumes 256 entries in the mesh's list of links.
-use Prim.Native.Nat.{ℕ, _<_}
+-- At rest of a wavelength under a cut its taken links are one simple path, its flood's route, and the route query gives it, whatever the other wavelength
+-- does. Assumes 256 entries in the mesh's list of links.
+use Prim.Native.Nat.{ℕ}
 use mathlib.Core.Path.{_≡_, sym, subst}
 use mathlib.Core.Logic.{inl, inr}
 use mathlib.Core.Bool.{true}
@@ -8,43 +9,40 @@ use lib.ListN.{length}
 use Rattle.scan.specs.Entry.{at}
 use Rattle.flood.specs.declared.Flood.{Flood}
 use Rattle.flood.specs.Digraph.{Digraph, Failure}
-use Rattle.flood.specs.Digraph as failures
-use Rattle.flood.specs.Path.{Strong, Route}
+use Rattle.flood.specs.Path.{Route}
 use Rattle.flood.specs.Laws.Tests.{at-rest-says}
-use Rattle.flood.specs.Laws.Progress.{Progress}
-use Rattle.flood.specs.Laws.Cut.{cut-sound}
 use Rattle.flood.specs.Laws.Route.{rest-route}
 use Rattle.flood.specs.Laws.RouteQuery.{route-from-is}
+use Rattle.wavelengths.specs.declared.Wavelength.{Wavelength}
+use Rattle.wavelengths.specs.Wavelength.{on}
+use Rattle.wavelengths.specs.Merge.{Turn}
 use Rattle.mesh.specs.declared.Mesh.{Mesh}
 use Rattle.mesh.specs.declared.Plan.{Plan}
 use Rattle.mesh.specs.declared.Answer.the-variants.{Accepted}
 use Rattle.planner.specs.Plan.{planned}
 use Rattle.formed.specs.declared.Cut.the-variants.{Link}
 use Rattle.recovery.specs.declared.Session.{Session}
-use Rattle.topology.specs.Backup.{backup}
-use Rattle.recovery.specs.Calls.{digraph, resting, routeOf}
+use Rattle.recovery.specs.Session.{floods}
+use Rattle.recovery.specs.Calls.{digraph, failure, restingOn, routeOf}
 use Rattle.history.specs.History.{Call}
 use Rattle.history.specs.Demand.{AtRest, OnePath, ended, log}
-use Rattle.history.specs.Laws.Kept.{cutSession, kept-cut}
-use Rattle.history.specs.Laws.Started.{strong, ended-kept}
+use Rattle.history.specs.Laws.Kept.{cutSession, played, Since, kept-cut}
+use Rattle.history.specs.Laws.Started.{sound, progress, ended-kept}
 
--- no link is under way
-pub rest-seen : (s : Session) → AtRest s → resting s ≡ true
-rest-seen s r = at-rest-says (digraph s) (s .flood) .1 (λ i l. (λ e. r i (l, inl e), λ e. r i (l, inr e)))
-
-module _ (m : Mesh) (p : Plan) (joined : Strong (backup m p)) (k n : ℕ) (f : Flood) (b : k < m .count) where
+module _ (s : Session) (w : Wavelength) where
   abbrev g : Digraph
-  g = backup m p
+  g = digraph s w
 
-  abbrev c : Failure
-  c = failures.cut g k
+  abbrev f : Flood
+  f = on w (floods s)
 
-  abbrev s : Session
-  s = cutSession m p k f
+  -- no link is under way
+  pub rest-seen : AtRest s w → restingOn s w ≡ true
+  rest-seen r = at-rest-says g f .1 (λ i l. (λ e. r i (l, inl e), λ e. r i (l, inr e)))
 
   -- the flood's route is the path
-  route-path : {row : List ℕ} → Route g c (at (f .states)) row → OnePath s (g .head k) (g .tail k) row
-  route-path r =
+  route-path : (c : Failure) {row : List ℕ} → Route g c (at (f .states)) row → OnePath s w (c .source) (c .target) row
+  route-path c r =
       record {
         all-taken = λ i. (λ o. (r .path .free i o .0, r .on-taken i o), λ (l, e). r .taken-on i l e);
         each-once = r .once;
@@ -53,18 +51,26 @@ module _ (m : Mesh) (p : Plan) (joined : Strong (backup m p)) (k n : ℕ) (f : F
       }
 
   -- and what the query gives
-  query-is : resting s ≡ true → {row : List ℕ} → Route g c (at (f .states)) row → routeOf s ≡ row
+  query-is : restingOn s w ≡ true → {row : List ℕ} → Route g (failure s w) (at (f .states)) row → routeOf s w ≡ row
   unfolding routeOf
-  query-is t r = rw t (route-from-is g c f r)
+  query-is t r = rw t (route-from-is g (failure s w) f r)
 
-  pub rest-path : Progress g c n f → AtRest s → OnePath s (g .head k) (g .tail k) (routeOf s)
-  rest-path q r =
-      let t : resting s ≡ true = rest-seen s r in
-      let (row, w) = rest-route g c q t (cut-sound joined k b) in
-      subst (OnePath s (g .head k) (g .tail k)) (sym (query-is t w)) (route-path w)
+module _ (m : Mesh) (sized : length (m .links) ≡ 256) (accepted : planned m .answer ≡ Accepted) where
+  abbrev p : Plan
+  p = planned m .plan
 
-pub demand-route : (m : Mesh) → length (m .links) ≡ 256 → planned m .answer ≡ Accepted → (calls : List Call) (k : ℕ) → log m calls .cut ≡ Link k
-    → AtRest (ended m calls) → OnePath (ended m calls) (digraph (ended m calls) .head k) (digraph (ended m calls) .tail k) (routeOf (ended m calls))
+  module _ {k : ℕ} {ts : List Turn} (q : Since m p k ts) (w : Wavelength) where
+    abbrev s : Session
+    s = cutSession m p k (played m p k ts)
+
+    pub rest-path : AtRest s w → OnePath s w (digraph s w .head k) (digraph s w .tail k) (routeOf s w)
+    rest-path r =
+        let t : restingOn s w ≡ true = rest-seen s w r in
+        let (row, route) = rest-route (digraph s w) (failure s w) (progress m accepted sized q w) t (sound m accepted sized q w) in
+        subst (OnePath s w (digraph s w .head k) (digraph s w .tail k)) (sym (query-is s w t route)) (route-path s w (failure s w) route)
+
+pub demand-route : (m : Mesh) → length (m .links) ≡ 256 → planned m .answer ≡ Accepted → (calls : List Call) (k : ℕ) → log m calls .cut ≡ Link k → (w : Wavelength)
+    → let s = ended m calls in AtRest s w → OnePath s w (digraph s w .head k) (digraph s w .tail k) (routeOf s w)
 demand-route m sized accepted calls =
-    kept-cut m (planned m .plan) (λ s k n. AtRest s → OnePath s (digraph s .head k) (digraph s .tail k) (routeOf s))
-    (rest-path m (planned m .plan) (strong m accepted sized)) (ended-kept m accepted sized calls)
+    kept-cut m (planned m .plan) (λ s k ts. (w : Wavelength) → AtRest s w → OnePath s w (digraph s w .head k) (digraph s w .tail k) (routeOf s w))
+    (λ k ts. rest-path m sized accepted) (ended-kept m accepted sized calls)

@@ -11,10 +11,10 @@ use Rattle.flood.specs.Digraph.{Digraph}
 use Rattle.recovery.specs.declared.Session.{Session}
 use Rattle.recovery.specs.Formed.{recordAnswer}
 use Rattle.topology.specs.Backup.{backup}
-use Rattle.recovery.specs.Calls.{digraph, freshOn}
+use Rattle.recovery.specs.Calls.{freshOn}
 use Rattle.history.specs.History.{Call, reply, next, after}
 use Rattle.history.specs.Rules.{Now, start, ruleNext, ruleReply, ruled}
-use Rattle.history.specs.Demand.{Follows, Sized, seen, CallFollows}
+use Rattle.history.specs.Demand.{Follows, Sized, seen, arcs, CallFollows}
 use Rattle.history.specs.Laws.RuledCalls.{fresh-seen}
 use Rattle.history.specs.Laws.RuledNext.{next-mesh-plan, next-sized, next-seen}
 use Rattle.history.specs.Laws.RuledReply.{reply-seen}
@@ -22,10 +22,10 @@ use Rattle.history.specs.Laws.RuledReply.{reply-seen}
 -- ---- to follow is to be seen so
 
 follows-seen : {s : Session} {n : Now} → Follows s n → seen s ≡ n
-follows-seen F = λ t. record { cut = F .cut t; state = λ i. F .state i t; reached = λ v. F .reached v t }
+follows-seen F = λ t. record { cut = F .cut t; on = λ w. record { state = λ i. F .state w i t; reached = λ v. F .reached w v t } }
 
 seen-follows : {s : Session} {n : Now} → seen s ≡ n → Follows s n
-seen-follows e = record { cut = λ t. e t .cut; state = λ i t. e t .state i; reached = λ v t. e t .reached v }
+seen-follows e = record { cut = λ t. e t .cut; state = λ w i t. e t .on w .state i; reached = λ w v t. e t .on w .reached v }
 
 pub fresh-follows : (m : Mesh) (p : Plan) → Follows (freshOn m p) start
 fresh-follows m p = seen-follows (fresh-seen m p)
@@ -33,11 +33,11 @@ fresh-follows m p = seen-follows (fresh-seen m p)
 -- ---- one call
 
 module _ (s : Session) (n : Now) (z : Sized s) (r : recordAnswer s ≡ Accepted) (F : Follows s n) where
-  pub reply-follows : (c : Call) → reply c s ≡ ruleReply (digraph s) (lengths (s .mesh)) c n
-  reply-follows c = reply-seen s z r c ∙ ap (ruleReply (digraph s) (lengths (s .mesh)) c) (follows-seen F)
+  pub reply-follows : (c : Call) → reply c s ≡ ruleReply (arcs s) (lengths (s .mesh)) c n
+  reply-follows c = reply-seen s z r c ∙ ap (ruleReply (arcs s) (lengths (s .mesh)) c) (follows-seen F)
 
-  pub next-follows : (c : Call) → Follows (next c s) (ruleNext (digraph s) c n)
-  next-follows c = seen-follows (next-seen s z r c ∙ ap (ruleNext (digraph s) c) (follows-seen F))
+  pub next-follows : (c : Call) → Follows (next c s) (ruleNext (arcs s) c n)
+  next-follows c = seen-follows (next-seen s z r c ∙ ap (ruleNext (arcs s) c) (follows-seen F))
 
 -- from what the session holds
 pub call-as-ruled : (s : Session) → Sized s → recordAnswer s ≡ Accepted → (c : Call) → CallFollows s c
@@ -67,20 +67,20 @@ after-sized (c ∷ cs) s z = after-sized cs (next c s) (next-sized c s z)
 abbrev pub Passing : List Call → Session → Type 0
 Passing calls s = (first rest : List Call) → calls ≡ first ++ rest → recordAnswer (after first s) ≡ Accepted
 
-pub list-follows : (s : Session) (n : Now) (calls : List Call) → Sized s → Passing calls s → Follows s n → Follows (after calls s) (ruled (digraph s) calls n)
+pub list-follows : (s : Session) (n : Now) (calls : List Call) → Sized s → Passing calls s → Follows s n → Follows (after calls s) (ruled (arcs s) calls n)
 unfolding after ruled
 list-follows s n [] z h F = F
 list-follows s n (c ∷ cs) z h F =
-    let m : Now = ruleNext (digraph s) c n in
+    let m : Now = ruleNext (arcs s) c n in
     let G : Follows (next c s) m = next-follows s n z (h [] (c ∷ cs) refl) F c in
     subst (λ (g : Digraph). Follows (after cs (next c s)) (ruled g cs m)) (same-backup (next-mesh-plan c s))
     (list-follows (next c s) m cs (next-sized c s z) (λ first rest e. h (c ∷ first) rest (ap (_∷_ c) e)) G)
 
 pub list-answers : (s : Session) (n : Now) (calls : List Call) → Sized s → Passing calls s → Follows s n
     → (first : List Call) (c : Call) (rest : List Call) → calls ≡ first ++ (c ∷ rest)
-    → reply c (after first s) ≡ ruleReply (digraph s) (lengths (s .mesh)) c (ruled (digraph s) first n)
+    → reply c (after first s) ≡ ruleReply (arcs s) (lengths (s .mesh)) c (ruled (arcs s) first n)
 list-answers s n calls z h F first c rest e =
     let passing : Passing first s = λ p q d. h p (q ++ (c ∷ rest)) (e ∙ ap (λ (l : List Call). l ++ (c ∷ rest)) d ∙ append-assoc p q (c ∷ rest)) in
-    let m : Now = ruled (digraph s) first n in
+    let m : Now = ruled (arcs s) first n in
     reply-follows (after first s) m (after-sized first s z) (h first (c ∷ rest) e) (list-follows s n first z passing F) c
     ∙ ap₂ (λ (g : Digraph) (length : ℕ → ℕ). ruleReply g length c m) (same-backup (after-mesh-plan first s)) (ap lengths (after-mesh-plan first s .0))

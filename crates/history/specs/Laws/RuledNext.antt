@@ -3,41 +3,48 @@
 use Prim.Native.Nat.{ℕ}
 use mathlib.Core.Path.{_≡_, refl, sym, _∙_, ap, subst}
 use mathlib.Core.Bool.{false}
-use lib.ListN.{length-replicate}
+use mathlib.Core.List.{[], _∷_}
+use lib.ListN.{length, length-replicate}
 use Rattle.mesh.specs.declared.Mesh.{Mesh}
 use Rattle.mesh.specs.declared.Plan.{Plan}
 use Rattle.mesh.specs.declared.Answer.{Answer}
 use Rattle.mesh.specs.declared.Answer.the-variants.{Accepted, Refused}
-use Rattle.flood.specs.declared.Flood.{Flood}
-use Rattle.flood.specs.Digraph.{Digraph, Failure}
+use Rattle.flood.specs.Digraph.{Failure}
 use Rattle.flood.specs.Digraph as failures
-use Rattle.flood.specs.Machine as machine
-use Rattle.flood.specs.Machine.{fresh, order}
-use Rattle.flood.specs.Laws.Frame.{Frame, begin-frame, step-frame, play-frame}
+use Rattle.flood.specs.Machine.{fresh}
+use Rattle.flood.specs.Laws.Frame.{Frame, begin-frame}
+use Rattle.wavelengths.specs.declared.Floods.{Floods}
+use Rattle.wavelengths.specs.declared.Wavelength.{Wavelength}
+use Rattle.wavelengths.specs.Wavelength.{wavelengthOf, on}
+use Rattle.wavelengths.specs.Merge as merge
+use Rattle.wavelengths.specs.Merge.{turn, order, play}
+use Rattle.wavelengths.specs.Laws.Project.{on-begin}
 use Rattle.recovery.specs.declared.Session.{Session}
+use Rattle.recovery.specs.Session.{floods}
 use Rattle.recovery.specs.Formed.{recordAnswer}
-use Rattle.recovery.specs.Calls.{digraph, failure, freshOn, withFlood, change, deliveryAs, runAs, afterCut, afterDelivery, afterRun, afterMend}
+use Rattle.recovery.specs.Calls.{digraph, failure, freshOn, withFloods, change, deliveryAs, runAs, afterCut, afterDelivery, afterRun, afterMend}
 use Rattle.history.specs.History.{Call, cut, deliver, run, mend, status, next}
 use Rattle.history.specs.Rules.{Now, effect, changedBy, ruleNext}
-use Rattle.history.specs.Demand.{Sized, seen}
-use Rattle.history.specs.Laws.RuledCalls.{answerOf, made, refusal-is, made-seen}
+use Rattle.history.specs.Demand.{Sized, seen, arcs}
+use Rattle.history.specs.Laws.RuledRun.{play-frames}
+use Rattle.history.specs.Laws.RuledCalls.{answerOf, made, fresh-each, refusal-is, made-seen}
 
 -- every call, as a cut or a mend, hands the session back where it refuses
 next-is : (c : Call) (s : Session) → next c s ≡ change (answerOf c s) s (made c s) .session
 unfolding afterCut afterDelivery afterRun afterMend
-next-is (cut w k) s = refl
-next-is (deliver w k) s = go (answerOf (deliver w k) s) _
+next-is (cut f k) s = refl
+next-is (deliver f k u) s = go (answerOf (deliver f k u) s) _
   where
-    go : (a : Answer) (f : Flood) → deliveryAs a s k f .session ≡ change a s (withFlood s f) .session
-    go Accepted f = refl
-    go (Refused number place) f = refl
+    go : (a : Answer) (p : Floods) → deliveryAs a s k (wavelengthOf u) p .session ≡ change a s (withFloods s p) .session
+    go Accepted p = refl
+    go (Refused number place) p = refl
 next-is (run n) s = go (answerOf (run n) s) _
   where
-    go : (a : Answer) (r : machine.Ran) → runAs a s r .session ≡ change a s (withFlood s (r .flood)) .session
+    go : (a : Answer) (r : merge.Ran) → runAs a s r .session ≡ change a s (withFloods s (r .floods)) .session
     go Accepted r = refl
     go (Refused number place) r = refl
-next-is (mend w k) s = refl
-next-is (status k) s = go (answerOf (status k) s)
+next-is (mend f k) s = refl
+next-is (status k u) s = go (answerOf (status k u) s)
   where
     go : (a : Answer) → s ≡ change a s s .session
     go Accepted = refl
@@ -57,43 +64,46 @@ pub next-mesh-plan : (c : Call) (s : Session) → (next c s .mesh ≡ s .mesh) �
 next-mesh-plan c s = next-keeps (λ t. (t .mesh ≡ s .mesh) × (t .plan ≡ s .plan)) c s (refl, refl) (go c)
   where
     go : (c : Call) → (made c s .mesh ≡ s .mesh) × (made c s .plan ≡ s .plan)
-    go (cut w k) = (refl, refl)
-    go (deliver w k) = (refl, refl)
+    go (cut f k) = (refl, refl)
+    go (deliver f k u) = (refl, refl)
     go (run n) = (refl, refl)
-    go (mend w k) = (refl, refl)
-    go (status k) = (refl, refl)
+    go (mend f k) = (refl, refl)
+    go (status k u) = (refl, refl)
 
 pub fresh-sized : (m : Mesh) (p : Plan) → Sized (freshOn m p)
 unfolding fresh
-fresh-sized m p = record { states = length-replicate {A = ℕ} 256 0; reached = length-replicate 64 false }
-
-run-frame : (g : Digraph) (c : Failure) (n : ℕ) (f : Flood) → Frame g f (machine.run g c n f .flood)
-unfolding machine.run
-run-frame g c n f = play-frame g c (order g c n f) f
+fresh-sized m p = record {
+  states = fresh-each (λ f. length (f .states) ≡ 256) (length-replicate {A = ℕ} 256 0);
+  reached = fresh-each (λ f. length (f .reached) ≡ 64) (length-replicate 64 false);
+}
 
 pub next-sized : (c : Call) (s : Session) → Sized s → Sized (next c s)
+unfolding play merge.run
 next-sized c s z = next-keeps Sized c s z (go c)
   where
-    framed : (t : Session) → Frame (digraph s) (s .flood) (t .flood) → Sized t
-    framed t F = record { states = F .states .sized ∙ z .states; reached = F .reached .sized ∙ z .reached }
+    framed : (t : Session) → ((w : Wavelength) → Frame (digraph s w) (on w (floods s)) (on w (floods t))) → Sized t
+    framed t F = record { states = λ w. F w .states .sized ∙ z .states w; reached = λ w. F w .reached .sized ∙ z .reached w }
 
     go : (c : Call) → Sized (made c s)
-    go (cut w k) = framed (made (cut w k) s) (begin-frame (digraph s) (failures.cut (digraph s) k) (s .flood))
-    go (deliver w k) = framed (made (deliver w k) s) (step-frame (digraph s) (failure s) (s .flood) k)
-    go (run n) = framed (made (run n) s) (run-frame (digraph s) (failure s) n (s .flood))
-    go (mend w k) = fresh-sized (s .mesh) (s .plan)
-    go (status k) = z
+    go (cut f k) =
+        let lost : Wavelength → Failure = λ w. failures.cut (digraph s w) k in
+        framed (made (cut f k) s)
+        (λ w. subst (Frame (digraph s w) (on w (floods s))) (sym (on-begin (digraph s) lost w (floods s))) (begin-frame (digraph s w) (lost w) (on w (floods s))))
+    go (deliver f k u) = framed (made (deliver f k u) s) (play-frames (digraph s) (failure s) (turn k (wavelengthOf u) ∷ []) (floods s))
+    go (run n) = framed (made (run n) s) (play-frames (digraph s) (failure s) (order (digraph s) (failure s) n (floods s)) (floods s))
+    go (mend f k) = fresh-sized (s .mesh) (s .plan)
+    go (status k u) = z
 
 -- ---- what it changes
 
-pub next-seen : (s : Session) → Sized s → recordAnswer s ≡ Accepted → (c : Call) → seen (next c s) ≡ ruleNext (digraph s) c (seen s)
+pub next-seen : (s : Session) → Sized s → recordAnswer s ≡ Accepted → (c : Call) → seen (next c s) ≡ ruleNext (arcs s) c (seen s)
 unfolding ruleNext
 next-seen s z r c =
-    let later : Now = effect (digraph s) c (s .cut) (seen s) in
+    let later : Now = effect (arcs s) c (s .cut) (seen s) in
     ap seen (next-is c s)
     ∙ go (answerOf c s) later (made-seen s r z c)
-    ∙ ap (λ (a : Answer). changedBy (digraph s) a (seen s) later) (refusal-is s r c)
+    ∙ ap (λ (a : Answer). changedBy (arcs s) a (seen s) later) (refusal-is s r c)
   where
-    go : (a : Answer) (n : Now) → (a ≡ Accepted → seen (made c s) ≡ n) → seen (change a s (made c s) .session) ≡ changedBy (digraph s) a (seen s) n
+    go : (a : Answer) (n : Now) → (a ≡ Accepted → seen (made c s) ≡ n) → seen (change a s (made c s) .session) ≡ changedBy (arcs s) a (seen s) n
     go Accepted n h = h refl
     go (Refused number place) n h = refl

@@ -15,9 +15,7 @@ use Rattle.flood.specs.declared.Flood.{Flood}
 use Rattle.flood.specs.Digraph.{Digraph, Failure, cut}
 use Rattle.flood.specs.Machine.{offer, leaves, opens, holds, feeds, first, some, accepts, begin, arrive, retreat, withdraw, step, Roomy}
 use Rattle.flood.specs.Laws.Tests.{at-offer, length-offer, leaves-says, opens-says, first-passes, accepts-says}
-use Rattle.formed.specs.declared.Cut.{Cut}
-use Rattle.formed.specs.declared.Cut.the-variants.{Link}
-use Rattle.history.specs.Rules.{Now, put, cutRule, quietFrom, heldAt, takenInto, offeredRule, refusedRule, deliverRule}
+use Rattle.history.specs.Rules.{Side, put, cutRule, quietFrom, heldAt, takenInto, offeredRule, refusedRule, deliverRule}
 use Rattle.history.specs.Laws.RuledTests.{shown, opens-is, some-opens, some-holds, some-feeds, first-feeds}
 
 -- where h leads from each branch to that of another choice by the same test, it leads from choice to choice
@@ -50,7 +48,7 @@ offer-is p q l same inside = fun-ext (λ i. at-offer p l i (inside i (at l i)) �
 
 -- ---- deliveries; link k is the cut one
 
-module _ (g : Digraph) (head< : (i : ℕ) → i < g .links → g .head i < g .nodes) (k : ℕ) (x : Cut) (f : Flood) (room : Roomy g f) where
+module _ (g : Digraph) (head< : (i : ℕ) → i < g .links → g .head i < g .nodes) (k : ℕ) (f : Flood) (room : Roomy g f) where
   open Digraph g using (links, tail, head)
 
   abbrev c : Failure
@@ -62,9 +60,9 @@ module _ (g : Digraph) (head< : (i : ℕ) → i < g .links → g .head i < g .no
   abbrev R : ℕ → Bool
   R = has (f .reached)
 
-  -- other states and reached nodes under the same cut
-  abbrev with : (ℕ → ℕ) → (ℕ → Bool) → Now
-  with S R = record { cut = x; state = S; reached = R }
+  -- other states and reached nodes
+  abbrev with : (ℕ → ℕ) → (ℕ → Bool) → Side
+  with S R = record { state = S; reached = R }
 
   inside : {i : ℕ} → i < links → i < length (f .states)
   inside l = let q = room .long in omega arith
@@ -76,9 +74,9 @@ module _ (g : Digraph) (head< : (i : ℕ) → i < g .links → g .head i < g .no
   mark {j} b = changed-put (set-has (f .reached) (head j) true (let h = head< j b in let w = room .wide in omega arith))
 
   -- the cut
-  pub begin-ruled : k < links → shown (Link k) (begin g c f) ≡ cutRule g k (shown x f)
+  pub begin-ruled : k < links → shown (begin g c f) ≡ cutRule g k (shown f)
   unfolding begin leaves cutRule
-  begin-ruled b = λ t. record { cut = Link k; state = offered t; reached = mark b t }
+  begin-ruled b = λ t. record { state = offered t; reached = mark b t }
     where
       q : ℕ → Bool
       q = leaves g c (head k)
@@ -88,30 +86,30 @@ module _ (g : Digraph) (head< : (i : ℕ) → i < g .links → g .head i < g .no
 
   module _ (j : ℕ) (b : j < links) where
     -- the quiet links leaving the head of link j become offered, and it becomes taken
-    spread : at (set (offer (opens g c (head j)) (f .states)) j 2) ≡ put (λ i. cond (quietFrom g k (head j) (shown x f) i) 1 (S i)) j 2
+    spread : at (set (offer (opens g c (head j)) (f .states)) j 2) ≡ put (λ i. cond (quietFrom g k (head j) (shown f) i) 1 (S i)) j 2
     spread = set-put (offer p (f .states)) j 2 (omega (arith, length-offer p (f .states), inside b)) ∙ ap (λ (s : ℕ → ℕ). put s j 2) offered
       where
         p : ℕ → ℕ → Bool
         p = opens g c (head j)
 
         q : ℕ → Bool
-        q = quietFrom g k (head j) (shown x f)
+        q = quietFrom g k (head j) (shown f)
 
         offered : at (offer p (f .states)) ≡ (λ i. cond (q i) 1 (S i))
-        offered = offer-is p q (f .states) (opens-is g x f k (head j)) (λ i v t. inside (opens-says g c (head j) i v .0 t .0 .0))
+        offered = offer-is p q (f .states) (opens-is g f k (head j)) (λ i v t. inside (opens-says g c (head j) i v .0 t .0 .0))
 
     -- on an offered link
-    arrive-ruled : shown x (arrive g c j f) ≡ offeredRule g k j (shown x f)
+    arrive-ruled : shown (arrive g c j f) ≡ offeredRule g k j (shown f)
     unfolding arrive offeredRule
     arrive-ruled =
-        rw (← some-opens g x f k (head j))
-        (cond-map (shown x) (R (head j)) (λ r. ap₂ with (store 3 b) refl)
-        (λ r. cond-map (shown x) (eqb (head j) (tail k)) (λ y. ap₂ with (store 2 b) (mark b))
-        (λ y. cond-map (shown x) (some g (opens g c (head j)) (f .states)) (λ o. ap₂ with spread (mark b))
+        rw (← some-opens g f k (head j))
+        (cond-map shown (R (head j)) (λ r. ap₂ with (store 3 b) refl)
+        (λ r. cond-map shown (eqb (head j) (tail k)) (λ y. ap₂ with (store 2 b) (mark b))
+        (λ y. cond-map shown (some g (opens g c (head j)) (f .states)) (λ o. ap₂ with spread (mark b))
         (λ o. ap₂ with (store 3 b) (mark b)))))
 
     -- on a refused link: what the rules make of the states s after its release
-    abbrev released : (ℕ → ℕ) → Now
+    abbrev released : (ℕ → ℕ) → Side
     released s =
         cond (not (eqb (tail j) (head k)) && (not (any (heldAt g (tail j) s) links) && any (takenInto g (tail j) s) links))
         (with (put s (lowest (takenInto g (tail j) s) links) 3) R)
@@ -127,13 +125,13 @@ module _ (g : Digraph) (head< : (i : ℕ) → i < g .links → g .head i < g .no
         (λ t. ap₂ with (set-put l m 3 (omega (arith, first-passes g (feeds g a) l t .0))) refl)
         refl)
 
-    withdraw-ruled : shown x (withdraw g c j f) ≡ refusedRule g k j (shown x f)
+    withdraw-ruled : shown (withdraw g c j f) ≡ refusedRule g k j (shown f)
     unfolding withdraw refusedRule
     withdraw-ruled = retreat-ruled (set (f .states) j 4) (let q = room .long in omega (arith, length-set (f .states) j 4)) ∙ ap released (store 4 b)
 
   -- on a link under way
-  pub step-ruled : (j : ℕ) → accepts g j f ≡ true → shown x (step g c j f) ≡ deliverRule g k j (shown x f)
+  pub step-ruled : (j : ℕ) → accepts g j f ≡ true → shown (step g c j f) ≡ deliverRule g k j (shown f)
   unfolding step
   step-ruled j t =
       let b : j < links = accepts-says g j f .0 t .0 in
-      rw t (cond-map (shown x) (eqb (S j) 1) (λ o. arrive-ruled j b) (λ o. withdraw-ruled j b))
+      rw t (cond-map shown (eqb (S j) 1) (λ o. arrive-ruled j b) (λ o. withdraw-ruled j b))

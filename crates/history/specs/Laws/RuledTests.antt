@@ -11,12 +11,11 @@ use Rattle.scan.specs.Lowest.{lowest, any}
 use Rattle.flood.specs.declared.Flood.{Flood}
 use Rattle.flood.specs.Digraph.{Digraph, cut}
 use Rattle.flood.specs.Machine.{underWay, live, holds, feeds, leaves, opens, first, some, atRest}
-use Rattle.formed.specs.declared.Cut.{Cut}
-use Rattle.history.specs.Rules.{Now, moving, quietFrom, heldAt, takenInto, rest}
+use Rattle.history.specs.Rules.{Side, quietFrom, heldAt, takenInto, restOn}
 
--- what the rules see of a flood under the cut x
-abbrev pub shown : Cut → Flood → Now
-shown x f = record { cut = x; state = at (f .states); reached = has (f .reached) }
+-- what the rules see of a flood
+abbrev pub shown : Flood → Side
+shown f = record { state = at (f .states); reached = has (f .reached) }
 
 -- state 1, 2 or 3
 live-is : (v : ℕ) → live v ≡ (eqb v 1 || (eqb v 2 || eqb v 3))
@@ -44,19 +43,15 @@ module _ (g : Digraph) where
   unfolding first feeds
   first-feeds a l = refl
 
-  pub first-under-way : (l : List ℕ) → first g (λ i. underWay) l ≡ lowest (λ i. moving (at l i)) links
-  unfolding first underWay
-  first-under-way l = refl
-
-  module _ (x : Cut) (f : Flood) where
-    pub opens-is : (k b i : ℕ) → opens g (cut g k) b i (at (f .states) i) ≡ quietFrom g k b (shown x f) i
+  module _ (f : Flood) where
+    pub opens-is : (k b i : ℕ) → opens g (cut g k) b i (at (f .states) i) ≡ quietFrom g k b (shown f) i
     unfolding opens leaves
     opens-is k b i = rw (and-assoc, and-assoc)
 
-    pub some-opens : (k b : ℕ) → some g (opens g (cut g k) b) (f .states) ≡ any (quietFrom g k b (shown x f)) links
+    pub some-opens : (k b : ℕ) → some g (opens g (cut g k) b) (f .states) ≡ any (quietFrom g k b (shown f)) links
     unfolding some
     some-opens k b = ap (λ p. any p links) (fun-ext (opens-is k b))
 
-    pub rest-is : atRest g f ≡ rest g (shown x f)
+    pub rest-is : atRest g f ≡ restOn g (shown f)
     unfolding atRest some underWay
     rest-is = refl

@@ -17,11 +17,16 @@ use Rattle.flood.specs.Machine.{offer, opens, accepts, arrive, step}
 use Rattle.flood.specs.Laws.Tests.{Opens, some-opens-says, length-offer}
 use Rattle.flood.specs.Laws.Ways.{withdraw-ways}
 use Rattle.mesh.specs.declared.Answer.the-variants.{Accepted}
+use Rattle.wavelengths.specs.declared.Wavelength.{Wavelength}
+use Rattle.wavelengths.specs.Wavelength.{wavelengthOf, on}
+use Rattle.wavelengths.specs.Merge as merge
+use Rattle.wavelengths.specs.Laws.Wavelength.{on-put-own}
 use Rattle.formed.specs.declared.Cut.{Cut}
 use Rattle.formed.specs.declared.Cut.the-variants.{Link}
 use Rattle.recovery.specs.declared.Delivered.the-variants.{Taken, TurnedBack, Released}
 use Rattle.recovery.specs.declared.Session.{Session}
-use Rattle.recovery.specs.Calls.{digraph, failureOf, acted, deliverAnswer, afterDelivery}
+use Rattle.recovery.specs.Session.{floods}
+use Rattle.recovery.specs.Calls.{digraph, failureOf, failure, acted, deliverAnswer, afterDelivery}
 use Rattle.recovery.specs.Laws.Tested.{deliver-accepted}
 
 -- ---- the state of the link delivered on
@@ -70,11 +75,17 @@ module _ (g : Digraph) (c : Failure) (f : Flood) (j : ℕ) (t : accepts g j f �
       stays : (m : ℕ) → at (set (f .states) j 4) m ≡ 2 → at (set (set (f .states) j 4) m 3) j ≡ 4
       stays m z = getD-set-other (set (f .states) j 4) m j 3 0 (λ e. let q = ap (at (set (f .states) j 4)) e ∙ z in omega (arith, there)) ∙ there
 
--- ---- the answer to a delivery on link k, a to b, while the cut of link c stands, whose back-up arc starts at y
+-- ---- the answer to a delivery on link k, a to b on the wavelength w that u names, while the cut of link c stands, whose back-up arc there starts at y
 
-module _ (s : Session) (c k : ℕ) (stands : s .cut ≡ Link c) (ok : deliverAnswer s k ≡ Accepted) where
+module _ (s : Session) (c k u : ℕ) (stands : s .cut ≡ Link c) (ok : deliverAnswer s k u ≡ Accepted) where
+  abbrev w : Wavelength
+  w = wavelengthOf u
+
   abbrev g : Digraph
-  g = digraph s
+  g = digraph s w
+
+  abbrev f : Flood
+  f = on w (floods s)
 
   open Digraph g using (links, tail, head)
 
@@ -91,43 +102,46 @@ module _ (s : Session) (c k : ℕ) (stands : s .cut ≡ Link c) (ok : deliverAns
   y = tail c
 
   abbrev state : ℕ → ℕ
-  state = at (s .flood .states)
+  state = at (f .states)
 
   abbrev reached : ℕ → Bool
-  reached = has (s .flood .reached)
+  reached = has (f .reached)
 
   -- some quiet link leaves b besides the cut one
   abbrev QuietLink : Type 0
   QuietLink = (i : ℕ) × (i < links) × (tail i ≡ b) × (i ≢ c) × (state i ≡ 0)
 
-  moves : accepts g k (s .flood) ≡ true
-  moves = deliver-accepted s k ok .3
+  moves : accepts g k f ≡ true
+  moves = deliver-accepted s k u ok .4
 
   -- it answers by the state that the link has then
-  answer-by : {v : ℕ} → at (step g x k (s .flood) .states) k ≡ v → afterDelivery s k .answer ≡ acted a b v
-  unfolding afterDelivery
+  answer-by : {v : ℕ} → at (step g x k f .states) k ≡ v → afterDelivery s k u .answer ≡ acted a b v
+  unfolding afterDelivery merge.step
   answer-by e =
-      rw ok (ap (λ (u : Cut). acted a b (at (step g (failureOf g u) k (s .flood) .states) k)) stands ∙ ap (acted a b) e)
+      rw ok
+      (ap (λ (h : Flood). acted a b (at (h .states) k)) (on-put-own w (step g (failure s w) k f) (floods s))
+      ∙ ap (λ (v : Cut). acted a b (at (step g (failureOf g v) k f .states) k)) stands
+      ∙ ap (acted a b) e)
 
   module _ (offered : state k ≡ 1) where
     -- b is reached
-    pub answer-reached : reached b ≡ true → afterDelivery s k .answer ≡ TurnedBack b
-    answer-reached r = answer-by (state-known g x (s .flood) k moves offered r)
+    pub answer-reached : reached b ≡ true → afterDelivery s k u .answer ≡ TurnedBack b
+    answer-reached r = answer-by (state-known g x f k moves offered r)
 
     module _ (fresh : reached b ≡ false) where
       -- b is y
-      pub answer-target : b ≡ y → afterDelivery s k .answer ≡ Taken b
-      answer-target e = answer-by (state-target g x (s .flood) k moves offered fresh e)
+      pub answer-target : b ≡ y → afterDelivery s k u .answer ≡ Taken b
+      answer-target e = answer-by (state-target g x f k moves offered fresh e)
 
       -- b is not y and has links to offer, or none
-      pub answer-offers : b ≢ y → QuietLink → afterDelivery s k .answer ≡ Taken b
+      pub answer-offers : b ≢ y → QuietLink → afterDelivery s k u .answer ≡ Taken b
       answer-offers n (i, l, e, d, z) =
-          answer-by (state-offers g x (s .flood) k moves offered fresh n (i, (n, l, e, ne-eqb i c d, z)))
+          answer-by (state-offers g x f k moves offered fresh n (i, (n, l, e, ne-eqb i c d, z)))
 
-      pub answer-none : b ≢ y → (QuietLink → ⊥) → afterDelivery s k .answer ≡ TurnedBack b
+      pub answer-none : b ≢ y → (QuietLink → ⊥) → afterDelivery s k u .answer ≡ TurnedBack b
       answer-none n none =
-          answer-by (state-none g x (s .flood) k moves offered fresh n
+          answer-by (state-none g x f k moves offered fresh n
           (λ (i, o). none (i, o .1, o .2, eqb-false i c (o .3), o .4)))
 
-  pub answer-refused : state k ≡ 3 → afterDelivery s k .answer ≡ Released a
-  answer-refused o = answer-by (state-released g x (s .flood) k moves o)
+  pub answer-refused : state k ≡ 3 → afterDelivery s k u .answer ≡ Released a
+  answer-refused o = answer-by (state-released g x f k moves o)

@@ -1,0 +1,251 @@
+-- The wavelengths do not disturb each other: the cut and the deliveries on one wavelength, made alone, are all accepted and lead to the same flood there,
+-- since a flood is what its own deliveries make; and what a run makes on one wavelength is what that wavelength's own run makes. Assumes 256 entries in the
+-- mesh's list of links.
+use Prim.Native.Nat.{ℕ, _<_, _≤_}
+use mathlib.Core.Path.{_≡_, refl, sym, ap, ap₂, subst, _∙_}
+use mathlib.Core.Bool.{true}
+use mathlib.Core.Logic.{⊎-elim}
+use mathlib.Core.List.{List, [], _∷_, _++_, map, append-nil, append-assoc}
+use native.Mathlib.Omega.{arith}
+use lib.ListN.{length}
+use borrow.Author.Tests.{lt-ltb}
+use Rattle.scan.specs.Test.{known}
+use Rattle.scan.specs.Entry.{at}
+use Rattle.scan.specs.Total.{bit}
+use Rattle.flood.specs.declared.Flood.{Flood}
+use Rattle.flood.specs.Digraph.{Digraph, Failure}
+use Rattle.flood.specs.Machine as machine
+use Rattle.wavelengths.specs.declared.Floods.{Floods}
+use Rattle.wavelengths.specs.declared.Wavelength.{Wavelength}
+use Rattle.wavelengths.specs.declared.Wavelength.the-variants.{First, Second}
+use Rattle.wavelengths.specs.Wavelength.{same, isWavelength, wavelengthOf, numberOf, on}
+use Rattle.wavelengths.specs.Merge as merge
+use Rattle.wavelengths.specs.Merge.{Turn, turn, linksOn, freshOnEach, step, play, order}
+use Rattle.wavelengths.specs.Laws.Wavelength.{wavelength-named}
+use Rattle.wavelengths.specs.Laws.Project.{links-own, links-append, step-own, play-append}
+use Rattle.wavelengths.specs.Guarantees as runs
+use Rattle.mesh.specs.declared.Mesh.{Mesh}
+use Rattle.mesh.specs.declared.Plan.{Plan}
+use Rattle.mesh.specs.declared.Answer.{Answer}
+use Rattle.mesh.specs.declared.Answer.the-variants.{Accepted, Refused}
+use Rattle.planner.specs.Plan.{planned}
+use Rattle.formed.specs.declared.Cut.{Cut}
+use Rattle.formed.specs.declared.Cut.the-variants.{Nothing, Link}
+use Rattle.refusals.specs.Refusals as refusals
+use Rattle.recovery.specs.declared.Change.{Change}
+use Rattle.recovery.specs.declared.Delivery.{Delivery}
+use Rattle.recovery.specs.declared.Session.{Session}
+use Rattle.recovery.specs.Session.{floods}
+use Rattle.recovery.specs.Calls.{digraph, failure, withFloods, freshOn, cutOn, change, cutAnswer, deliverAnswer, runAnswer, deliveryAs, runAs, afterCut, afterDelivery, afterRun}
+use Rattle.recovery.specs.Laws.Tested.{deliver-accepts}
+use Rattle.history.specs.History.{Call, by-value, cut, deliver, run, reply, next, after, answers}
+use Rattle.history.specs.Rules.{Now, ruleNext}
+use Rattle.history.specs.Log.{Log, emptyLog, madeOn, madeBy, note, logged}
+use Rattle.history.specs.Demand.{Sized, seen, digraphOn, ended, log, callsOn, alone, Undisturbed, RunsAlone}
+use Rattle.history.specs.Laws.RuledCalls.{run-made}
+use Rattle.history.specs.Laws.RuledNext.{fresh-sized}
+use Rattle.history.specs.Laws.Ruled.{after-sized}
+use Rattle.history.specs.Laws.Kept.{cutSession, graphs, lost, begun, played, Since, Kept, free, under}
+use Rattle.history.specs.Laws.Kept.{acted-accepted, accepted-most, since-cut, one-accepted, since-more, played-own, accepted-own}
+use Rattle.history.specs.Laws.Started.{from-start, kept-record, ended-kept, ended-more}
+
+-- the log under the cut of link k, after the deliveries ts
+abbrev since : ℕ → List Turn → Log
+since k ts = record { cut = Link k; made = ts }
+
+-- ---- a flood by its own deliveries
+
+module _ (m : Mesh) (p : Plan) (w : Wavelength) where
+  floodBy : Cut → List ℕ → Flood
+  floodBy (Link k) js = machine.play (graphs m p w) (lost m p k w) js (on w (begun m p k))
+  floodBy Nothing js = on w (freshOnEach 256 64)
+
+  kept-flood : {s : Session} {l : Log} → Kept m p s l → on w (floods s) ≡ floodBy (l .cut) (madeOn w l)
+  unfolding floodBy
+  kept-flood free = refl
+  kept-flood (under q) = played-own m p q w
+
+same-self : (w : Wavelength) → same w w ≡ true
+same-self First = refl
+same-self Second = refl
+
+-- ---- one call
+
+-- what an accepted delivery makes, and what is noted of it
+module _ (s : Session) (j u : ℕ) (e : deliverAnswer s j u ≡ Accepted) where
+  abbrev later : Floods
+  later = step (digraph s) (failure s) (turn j (wavelengthOf u)) (floods s)
+
+  delivery-made : afterDelivery s j u ≡ deliveryAs Accepted s j (wavelengthOf u) later
+  unfolding afterDelivery
+  delivery-made = ap (λ (a : Answer). deliveryAs a s j (wavelengthOf u) later) e
+
+  delivery-next : next (deliver by-value j u) s ≡ withFloods s later
+  delivery-next = ap (λ (d : Delivery). d .session) delivery-made
+
+  delivery-noted : (g : Digraph) (n : Now) (l : Log)
+      → note g (deliver by-value j u) (reply (deliver by-value j u) s) n l ≡ record { cut = l .cut; made = l .made ++ (turn j (wavelengthOf u) ∷ []) }
+  delivery-noted g n l =
+      let w : Wavelength = wavelengthOf u in
+      ap (λ (d : Delivery). note g (deliver by-value j u) (d .answer) n l) delivery-made
+      ∙ rw (acted-accepted (digraph s w .tail j) (digraph s w .head j) (at (on w later .states) j))
+
+-- of the deliveries of a run no more are on one wavelength than it may make
+share-most : (g : Wavelength → Digraph) (c : Wavelength → Failure) (p : Floods) (a : ℕ) (w : Wavelength) → length (linksOn w (order g c a p)) ≤ a
+share-most g c p a First = omega (arith, runs.run-made g c p a, runs.run-ends g c p a .0)
+share-most g c p a Second = omega (arith, runs.run-made g c p a, runs.run-ends g c p a .0)
+
+-- what is noted of it, by its answer
+run-noted : (g : Digraph) (s : Session) (a : ℕ) {x : Answer} → runAnswer s ≡ x
+    → madeBy g (run a) (reply (run a) s) (seen s) ≡ madeBy g (run a) (runAs x s (merge.run (digraph s) (failure s) a (floods s)) .report) (seen s)
+unfolding afterRun
+run-noted g s a e = ap (λ (x : Answer). madeBy g (run a) (runAs x s (merge.run (digraph s) (failure s) a (floods s)) .report) (seen s)) e
+
+-- ---- from a planned mesh
+
+module _ (m : Mesh) (sized : length (m .links) ≡ 256) (good : planned m .answer ≡ Accepted) where
+  abbrev p : Plan
+  p = planned m .plan
+
+  -- the cut of link k
+  module _ (k : ℕ) (b : k < m .count) where
+    cut-passes : cutAnswer (freshOn m p) k ≡ Accepted
+    unfolding refusals.cutAnswer
+    cut-passes = rw (kept-record m good sized free, lt-ltb k (m .count) b)
+
+    cut-made : afterCut (freshOn m p) k ≡ record { session = cutSession m p k (played m p k []); answer = Accepted }
+    unfolding afterCut play
+    cut-made = ap (λ (a : Answer). change a (freshOn m p) (cutOn (freshOn m p) k)) cut-passes
+
+    cut-logged : (cs : List Call) (n : Now) (l : Log) → logged (digraphOn m) (answers (cut by-value k ∷ cs) (freshOn m p)) n l
+        ≡ logged (digraphOn m) (answers cs (cutSession m p k (played m p k []))) (ruleNext (digraphOn m) (cut by-value k) n) (since k [])
+    unfolding answers logged
+    cut-logged cs n l =
+        ap (λ (r : Change). logged (digraphOn m) (answers cs (r .session)) (ruleNext (digraphOn m) (cut by-value k) n) (note (digraphOn m) (cut by-value k) (r .answer) n l))
+        cut-made
+
+  -- under the cut of link k, on the wavelength that the number u names
+  module _ (u : ℕ) (named : isWavelength u ≡ true) (k : ℕ) where
+    abbrev w : Wavelength
+    w = wavelengthOf u
+
+    abbrev gw : Digraph
+    gw = graphs m p w
+
+    abbrev cw : Failure
+    cw = lost m p k w
+
+    abbrev single : ℕ → Call
+    single j = deliver by-value j u
+
+    -- after the deliveries ts, one more on a link that the flood accepts
+    module _ {ts : List Turn} (q : Since m p k ts) (j : ℕ) (a : machine.accepts gw j (on w (played m p k ts)) ≡ true) where
+      abbrev s : Session
+      s = cutSession m p k (played m p k ts)
+
+      abbrev us : List Turn
+      us = ts ++ (turn j w ∷ [])
+
+      single-since : Since m p k us
+      single-since = since-more m p q (turn j w ∷ []) (one-accepted m p k j w (played m p k ts) a)
+
+      single-accepted : deliverAnswer s j u ≡ Accepted
+      single-accepted = deliver-accepts s j u (kept-record m good sized (under q)) named refl a
+
+      single-floods : step (graphs m p) (lost m p k) (turn j w) (played m p k ts) ≡ played m p k us
+      unfolding play
+      single-floods = sym (play-append (graphs m p) (lost m p k) ts (turn j w ∷ []) (begun m p k))
+
+      single-flood : on w (played m p k us) ≡ machine.step gw cw j (on w (played m p k ts))
+      single-flood = ap (on w) (sym single-floods) ∙ step-own (graphs m p) (lost m p k) w (turn j w) (played m p k ts) (same-self w)
+
+      single-links : linksOn w us ≡ linksOn w ts ++ (j ∷ [])
+      unfolding linksOn
+      single-links = links-append w ts (turn j w ∷ []) ∙ ap (λ (js : List ℕ). linksOn w ts ++ js) (links-own w (turn j w) [] (same-self w))
+
+      single-logged : (cs : List Call) (n : Now) → logged (digraphOn m) (answers (single j ∷ cs) s) n (since k ts)
+          ≡ logged (digraphOn m) (answers cs (cutSession m p k (played m p k us))) (ruleNext (digraphOn m) (single j) n) (since k us)
+      unfolding answers logged
+      single-logged cs n =
+          ap₂ (λ (t : Session) (l : Log). logged (digraphOn m) (answers cs t) (ruleNext (digraphOn m) (single j) n) l)
+          (delivery-next s j u single-accepted ∙ ap (cutSession m p k) single-floods)
+          (delivery-noted s j u single-accepted (digraphOn m) n (since k ts))
+
+    -- any more, each accepted in its turn
+    singles : (js : List ℕ) {ts : List Turn} → Since m p k ts → machine.accepted gw cw js (on w (played m p k ts)) ≡ length js → (n : Now)
+        → let l = logged (digraphOn m) (answers (map single js) (cutSession m p k (played m p k ts))) n (since k ts) in
+        (l .cut ≡ Link k) × (madeOn w l ≡ linksOn w ts ++ js)
+    unfolding answers logged machine.accepted
+    singles [] {ts} q e n = (refl, sym (append-nil (linksOn w ts)))
+    singles (j ∷ js) {ts} q e n =
+        let f : Flood = on w (played m p k ts) in
+        let most = accepted-most gw cw js (machine.step gw cw j f) in
+        let a : machine.accepts gw j f ≡ true = ⊎-elim (λ t. t) (λ t. absurd (omega (arith, ap bit t, e))) (known (machine.accepts gw j f)) in
+        let (c, l) = singles js (single-since q j a) (rw (single-flood q j a) (omega (arith, ap bit a, e))) (ruleNext (digraphOn m) (single j) n) in
+        rw (single-logged q j a (map single js) n)
+        (c, l ∙ ap (λ (is : List ℕ). is ++ js) (single-links q j a) ∙ append-assoc (linksOn w ts) (j ∷ []) js)
+
+    -- the cut and the deliveries js alone
+    cut-singles : (js : List ℕ) → k < m .count → machine.accepted gw cw js (on w (begun m p k)) ≡ length js
+        → let l = log m (cut by-value k ∷ map single js) in (l .cut ≡ Link k) × (madeOn w l ≡ js)
+    unfolding play linksOn
+    cut-singles js b e =
+        from-start m good (λ s n. let l = logged (digraphOn m) (answers (cut by-value k ∷ map single js) s) n emptyLog in (l .cut ≡ Link k) × (madeOn w l ≡ js))
+        (rw (cut-logged k b (map single js) (seen (freshOn m p)) emptyLog) (singles js (since-cut m p b) e (ruleNext (digraphOn m) (cut by-value k) (seen (freshOn m p)))))
+
+  -- what the calls on wavelength w alone say
+  alone-says : (w : Wavelength) {s : Session} {l : Log} → Kept m p s l
+      → let o = log m (callsOn w (l .cut) (madeOn w l)) in (o .cut ≡ l .cut) × (madeOn w o ≡ madeOn w l)
+  unfolding answers logged
+  alone-says w free = (refl, refl)
+  alone-says w (under {k} {ts} q) =
+      let (named, is) = wavelength-named w in
+      subst (λ (v : Wavelength). let o = log m (callsOn w (Link k) (linksOn v ts)) in (o .cut ≡ Link k) × (madeOn v o ≡ linksOn v ts)) is
+      (cut-singles (numberOf w) named k (linksOn (wavelengthOf (numberOf w)) ts) (q .link) (accepted-own m p q (wavelengthOf (numberOf w))))
+
+  -- ---- a run
+
+  ended-sized : (calls : List Call) → Sized (ended m calls)
+  ended-sized calls = from-start m good (λ s n. Sized (after calls s)) (after-sized calls (freshOn m p) (fresh-sized m p))
+
+  module _ (w : Wavelength) (a : ℕ) where
+    -- the deliveries us are, on wavelength w, those of its own run
+    abbrev Own : Session → List Turn → Type 0
+    Own s us = (n : ℕ) × (n ≤ a) × (linksOn w us ≡ machine.order (digraph s w) (failure s w) n (on w (floods s)))
+
+    run-own : {s : Session} {l : Log} → Kept m p s l → Sized s → Own s (madeBy (digraphOn m) (run a) (reply (run a) s) (seen s))
+    unfolding linksOn machine.order refusals.runAnswer
+    run-own {s} free z =
+        let refused : runAnswer s ≡ Refused 23 0 = rw (kept-record m good sized free) in
+        subst (Own s) (sym (run-noted (digraphOn m) s a refused)) (0, omega arith, refl)
+    run-own {s} (under {k} {ts} q) z =
+        let r = kept-record m good sized (under q) in
+        let passed : runAnswer s ≡ Accepted = rw r in
+        let us : List Turn = order (graphs m p) (lost m p k) a (played m p k ts) in
+        subst (Own s) (run-made s r z a passed ∙ sym (run-noted (digraphOn m) s a passed))
+        (length (linksOn w us), share-most (graphs m p) (lost m p k) (played m p k ts) a w, runs.run-order (graphs m p) (lost m p k) (played m p k ts) a w)
+
+pub undisturbed : (m : Mesh) → length (m .links) ≡ 256 → planned m .answer ≡ Accepted → (calls : List Call) (w : Wavelength) → Undisturbed m calls w
+undisturbed m sized good calls w =
+    let p : Plan = planned m .plan in
+    let kept : (cs : List Call) → Kept m p (ended m cs) (log m cs) = ended-kept m good sized in
+    let (c, l) = alone-says m sized good w (kept calls) in
+    record {
+      same-cut = c;
+      same-flood = kept-flood m p w (kept (alone m calls w)) ∙ ap₂ (floodBy m p w) c l ∙ sym (kept-flood m p w (kept calls));
+      same-deliveries = l;
+    }
+
+pub runs-alone : (m : Mesh) → length (m .links) ≡ 256 → planned m .answer ≡ Accepted → (calls : List Call) (w : Wavelength) (a : ℕ) → RunsAlone m calls w a
+unfolding answers logged
+runs-alone m sized good calls w a =
+    let l : Log = log m calls in
+    let (n, most, own) = run-own m sized good w a (ended-kept m good sized calls) (ended-sized m sized good calls) in
+    record {
+      n = n;
+      most = most;
+      same =
+          ap (madeOn w) (ended-more m good sized calls (run a ∷ []))
+          ∙ links-append w (l .made) _
+          ∙ ap (λ (js : List ℕ). madeOn w l ++ js) own;
+    }
