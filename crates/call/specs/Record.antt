@@ -21,7 +21,7 @@ use Rattle.call.specs.declared.Made.{Made}
 abbrev pub numbers : ℕ → ℕ → ℕ → ℕ → Numbers
 numbers case first second third = record { case = case; first = first; second = second; third = third }
 
--- 0 a refusal, with its number and its place; 1 accepted; 2 taken, 3 turned back, 4 released, with the node that acted; 5 the deliveries that a run made, with 1 at
+-- 0 a refusal, with its number and its place; 1 accepted; 2 taken, 3 turned back, 4 released, with the node that acted; 5 the deliveries that a run made on both wavelengths, with 1 at
 -- rest and else 0; 6 a status whose route length is known, with the link's state, how many links are under way, and the length in metres; 7 a status whose
 -- route length is not known, with the other two
 abbrev pub refusalNumbers : ℕ → ℕ → Numbers
@@ -48,11 +48,11 @@ statusNumbers (statuses.Refused number place) = refusalNumbers number place
 
 -- the numbers of a call's answer
 abbrev pub replyNumbers : (c : Call) → Reply c → Numbers
-replyNumbers (cut w k) a = changeNumbers a
-replyNumbers (deliver w k) d = deliveredNumbers d
+replyNumbers (cut f k) a = changeNumbers a
+replyNumbers (deliver f k u) d = deliveredNumbers d
 replyNumbers (run n) r = reportNumbers r
-replyNumbers (mend w k) a = changeNumbers a
-replyNumbers (status k) t = statusNumbers t
+replyNumbers (mend f k) a = changeNumbers a
+replyNumbers (status k u) t = statusNumbers t
 
 abbrev pub made : Session → Numbers → Made
 made s a = record { session = s; answer = a }

@@ -13,11 +13,11 @@ pub(crate) fn cut(s: Session, link: u16) -> Change
     Change { session, answer }
 }
 
-pub(crate) fn deliver(s: Session, link: u16) -> Delivery
-    ensures { λ r. ⌜ r ≡ afterDelivery s link ⌝ }
+pub(crate) fn deliver(s: Session, link: u16, wavelength: u8) -> Delivery
+    ensures { λ r. ⌜ r ≡ afterDelivery s link wavelength ⌝ }
 {
     let mut session = s;
-    let answer = in_place::deliver(&mut session, link);
+    let answer = in_place::deliver(&mut session, link, wavelength);
     Delivery { session, answer }
 }
 

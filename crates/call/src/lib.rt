@@ -65,14 +65,16 @@ pub fn make_call(s: Session, letter: u8, n: u32) -> Made
     ensures { λ r. ⌜ r ≡ madeOf (callOf letter n) s ⌝ }
 {
     let link = (n % 65536) as u16;
+    let named = (n / 256 % 65536) as u16;
+    let wavelength = (n % 256) as u8;
     match letter {
         b'C' => changed(s.cut(link)),
-        b'D' => delivered(s.deliver(link)),
+        b'D' => delivered(s.deliver(named, wavelength)),
         b'M' => changed(s.mend(link)),
         b'c' => changed(lend::cut(s, link)),
-        b'd' => delivered(lend::deliver(s, link)),
+        b'd' => delivered(lend::deliver(s, named, wavelength)),
         b'm' => changed(lend::mend(s, link)),
         b'R' => ran(s.run(n)),
-        _ => shown(s, s.status(link)),
+        _ => shown(s, s.status(named, wavelength)),
     }
 }

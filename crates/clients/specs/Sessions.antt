@@ -2,6 +2,7 @@
 use Prim.Native.Nat.{ℕ}
 use mathlib.Core.List.{[], _∷_}
 use Rattle.mesh.specs.declared.Mesh.{Mesh}
+use Rattle.flood.specs.Topology.{hadOf}
 use Rattle.planner.specs.Plan.{planned}
 use Rattle.recovery.specs.declared.Session.{Session}
 use Rattle.recovery.specs.Calls.{started, routed}
@@ -23,10 +24,14 @@ begun m = record {
 abbrev pub unhindered : Call
 unhindered = run 4294967295
 
--- the list of calls "cut k, run, status k": the answers of the last two, and what the route query answers after them
+-- the list of calls "cut k, run, status k", of which wavelength 1 is shown (02, request 2): how many deliveries were made on it, by the states of its links,
+-- what the run reports of both wavelengths, the status, and what the route query answers after them
 unfoldable pub recovered : Session → ℕ → Recovered
-recovered s k = record {
-  report = reply unhindered (after (cut by-value k ∷ []) s);
-  status = reply (status k) (after (cut by-value k ∷ unhindered ∷ []) s);
-  routed = routed (after (cut by-value k ∷ unhindered ∷ status k ∷ []) s);
-}
+recovered s k =
+    let ran : Session = after (cut by-value k ∷ unhindered ∷ []) s in
+    record {
+      deliveries = hadOf (ran .mesh .count) (ran .first .states);
+      report = reply unhindered (after (cut by-value k ∷ []) s);
+      status = reply (status k 1) ran;
+      routed = routed (after (cut by-value k ∷ unhindered ∷ status k 1 ∷ []) s) 1;
+    }

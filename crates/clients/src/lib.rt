@@ -20,8 +20,10 @@ pub struct Begun {
     pub starting: Answer,
 }
 
-// What a cut leads to: the report of an unhindered run, and what a status of the cut link and the route query answer after it.
+// What a cut leads to on wavelength 1: how many deliveries of an unhindered run were made on it, what the run reports of both wavelengths, and what a status
+// of the cut link and the route query answer after it.
 pub struct Recovered {
+    pub deliveries: u16,
     pub report: Report,
     pub status: Status,
     pub routed: Routed,

@@ -1,5 +1,6 @@
 // Where the lists of demand 3 begin, and what one cut leads to.
 ghost use mathlib.Core.Path.{_≡_};
+ghost use Rattle.flood.specs.Topology.{hadOf};
 ghost use Rattle.recovery.specs.Calls.{started, routed};
 ghost use Rattle.history.specs.Demand.{Sized};
 ghost use Rattle.clients.specs.Sessions.{begun, recovered};
@@ -10,9 +11,13 @@ use mesh::Plan;
 use recovery::Change;
 use recovery::Routed;
 use recovery::Session;
+use states::count::deliveries;
 
 // The allowance of an unhindered run.
 const UNHINDERED: u32 = 4294967295;
+
+// The number of wavelength 1.
+const FIRST: u8 = 1;
 
 // A start on any mesh and plan.
 pub fn start(m: Mesh, plan: Plan) -> Change
@@ -21,11 +26,11 @@ pub fn start(m: Mesh, plan: Plan) -> Change
     Session::start(m, plan)
 }
 
-// The route query on any session.
-pub fn route(s: Session) -> Routed
-    ensures { λ r. ⌜ r ≡ routed s ⌝ }
+// The route query on any session and wavelength.
+pub fn route(s: Session, wavelength: u8) -> Routed
+    ensures { λ r. ⌜ r ≡ routed s wavelength ⌝ }
 {
-    s.route()
+    s.route(wavelength)
 }
 
 // Plans a mesh and starts a session on the mesh and its plan.
@@ -46,7 +51,17 @@ pub fn begin(m: Mesh) -> Begun
     }
 }
 
-// Cuts a link on a session, lets it run, and asks for the link's status and the route. The lists of a session that a function is given have the lengths that `Sized` says.
+// How many deliveries the links have had on wavelength 1, by their states.
+fn first_deliveries(s: Session) -> u16
+    ensures { λ r. ⌜ r ≡ hadOf (s .mesh .count) (s .first .states) ⌝ }
+{
+    let mesh = s.mesh;
+    let first = s.first;
+    deliveries(&first.states, mesh.count as usize)
+}
+
+// Cuts a link on a session, lets it run, and asks for the link's status and the route on wavelength 1. The lists of a session that a function is given have
+// the lengths that `Sized` says.
 pub fn recover(s: Session, link: u16) -> Recovered
     ensures value { λ r. ⌜ r ≡ recovered s link ⌝ }
     ensures sized { λ _. ⌜ Sized s ⌝ }
@@ -56,9 +71,11 @@ pub fn recover(s: Session, link: u16) -> Recovered
     let run = cut.run(UNHINDERED);
     let report = run.report;
     let ended = run.session;
-    let status = ended.status(link);
-    let routed = route(ended);
+    let deliveries = first_deliveries(ended);
+    let status = ended.status(link, FIRST);
+    let routed = route(ended, FIRST);
     Recovered {
+        deliveries,
         report,
         status,
         routed,

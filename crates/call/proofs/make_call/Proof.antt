@@ -18,6 +18,12 @@ by-letter n s r e m = m ∙ ap (λ (k : ℕ). madeOf (callOf k n) s) (sym e)
 cast-link : tie.Need-cast-link
 cast-link c = search needs
 
+cast-named : tie.Need-cast-named
+cast-named c = search needs
+
+cast-wavelength : tie.Need-cast-wavelength
+cast-wavelength c = search needs
+
 cut-requires : tie.Need-cut-requires
 cut-requires c κs = search needs
 
@@ -114,6 +120,8 @@ make-call-spec =
     tie.close
     (tie.spec
     cast-link
+    cast-named
+    cast-wavelength
     cut-requires
     changed-requires
     deliver-requires

@@ -37,11 +37,11 @@ statusOf n =
     (statuses.Refused (n .first) (n .second)))
 
 abbrev pub replyOf : (c : Call) → Numbers → Reply c
-replyOf (cut w k) n = changeOf n
-replyOf (deliver w k) n = deliveredOf n
+replyOf (cut f k) n = changeOf n
+replyOf (deliver f k u) n = deliveredOf n
 replyOf (run a) n = reportOf n
-replyOf (mend w k) n = changeOf n
-replyOf (status k) n = statusOf n
+replyOf (mend f k) n = changeOf n
+replyOf (status k u) n = statusOf n
 
 -- ---- it is the answer that was recorded
 
@@ -66,8 +66,8 @@ status-told (statuses.Link state underWay lengths.NotKnown) = refl
 status-told (statuses.Refused number place) = refl
 
 pub reply-told : (c : Call) (a : Reply c) → replyOf c (replyNumbers c a) ≡ a
-reply-told (cut w k) a = change-told a
-reply-told (deliver w k) d = delivered-told d
+reply-told (cut f k) a = change-told a
+reply-told (deliver f k u) d = delivered-told d
 reply-told (run n) r = report-told r
-reply-told (mend w k) a = change-told a
-reply-told (status k) t = status-told t
+reply-told (mend f k) a = change-told a
+reply-told (status k u) t = status-told t
