@@ -18,6 +18,8 @@ pub const PLAN: u8 = b'P';
 /// Planning by the plain planner; prints what `PLAN` prints.
 pub const PLAN_IN_TWO_PASSES: u8 = b'T';
 pub const RUN: u8 = b'R';
+/// A run with wavelength 2 at rest from the beginning.
+pub const RUN_OF_FIRST: u8 = b'S';
 pub const CUT: u8 = b'C';
 pub const DELIVER: u8 = b'L';
 pub const STATUS: u8 = b'U';
@@ -57,6 +59,7 @@ fn repeat(job: u8, repeats: u32, book: &[u8], mesh: Mesh) -> Result<String, Stri
         PLAN => Ok(plan_line(repeats, mesh, plan)),
         PLAN_IN_TWO_PASSES => Ok(plan_line(repeats, mesh, two_pass_plan::plan)),
         RUN => Ok(sessions::run_line(repeats, &mesh)),
+        RUN_OF_FIRST => Ok(sessions::run_of_first_line(repeats, &mesh)),
         CUT => Ok(sessions::cut_line(repeats, &mesh)),
         DELIVER => Ok(sessions::delivery_line(repeats, &mesh)),
         STATUS => Ok(sessions::status_line(repeats, &mesh)),

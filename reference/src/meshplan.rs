@@ -6,7 +6,7 @@ use crate::book::decode;
 use crate::mesh::Mesh;
 use crate::plan::{plan, Plan};
 use crate::refusal::{in_words, Answer, Refusal};
-use crate::session::{start, Session};
+use crate::session::{start, Session, Wavelength};
 
 /// The listing of a book; a refusal of reading or planning is the only line.
 pub fn listing(book: &[u8]) -> String {
@@ -44,16 +44,20 @@ fn add_links(mesh: &Mesh, plan: &Plan, text: &mut String) {
     }
 }
 
-/// The link, x, y, the deliveries of an unhindered run, the length of the route
-/// and its links.
+/// Of wavelength 1 alone: the link, x, y, its own deliveries in an unhindered
+/// run, the length of its route and the route's links.
 fn add_cut(fresh: &Session, link: u16, text: &mut String) -> Result<(), Refusal> {
+    let shown = Wavelength::One;
     let mut session = fresh.clone();
     session.cut(link)?;
-    let made = session.run(u32::MAX)?.made;
-    let (x, y) = session.primary_arc(link);
-    let length = session.status(link)?.route;
+    let mut made = 0;
+    session.run_by_turns(u32::MAX, |_, wavelength| {
+        made += u32::from(wavelength == shown);
+    })?;
+    let (x, y) = session.primary_arc(shown, link);
+    let length = session.status(link, shown.number())?.route;
     add(text, format_args!("cut {link} {x} {y} {made} {length}"));
-    for link in session.route()? {
+    for link in session.route(shown.number())? {
         add(text, format_args!(" {link}"));
     }
     text.push('\n');

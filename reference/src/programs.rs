@@ -87,15 +87,16 @@ mod tests {
         let made = [
             Call::Cut(0),
             Call::Run(9),
-            Call::Route,
+            Call::Route(1),
             Call::Mend(1),
-            Call::Status(2),
+            Call::Status(2, 2),
         ];
-        let expected = "start accepted\ncut 0 accepted\nrun 9 made 2 rest\nroute accepted 1 2\n\
-            mend 1 refused 26 1\nstatus 2 state 2 busy 0 route -\n\
-            cut-is 0\nstates 022\nreached 0 1 2\n";
+        let expected = "start accepted\ncut 0 accepted\nrun 9 made 4 rest\n\
+            route 1 accepted 1 2\nmend 1 refused 26 1\nstatus 2 2 state 2 busy 0 route -\n\
+            cut-is 0\nstates 1 022\nreached 1 0 1 2\nstates 2 022\nreached 2 0 1 2\n";
         assert_eq!(answers(&TRIANGLE, &made), expected);
-        let begun = "start accepted\ncut none\nstates 000\nreached\n";
+        let begun = "start accepted\ncut none\nstates 1 000\nreached 1\n\
+            states 2 000\nreached 2\n";
         assert_eq!(answers(&TRIANGLE, &[]), begun);
     }
 

@@ -17,6 +17,7 @@ pub enum Reason {
     OutputShort = 11,
     NoSuchLink = 12,
     IllFormed = 13,
+    NoSuchWavelength = 14,
     NoPath = 20,
     RemovalParts = 21,
     CutStands = 22,

@@ -10,7 +10,7 @@ use crate::book::decode;
 use crate::mesh::{Link, Mesh, MOST_LINKS};
 use crate::plan::{plan, Plan};
 use crate::refusal::Answer;
-use crate::session::{start, Session};
+use crate::session::{start, Flood, Session, Wavelength};
 
 #[derive(Clone, Debug, PartialEq, Eq)]
 pub struct Script {
@@ -37,21 +37,31 @@ pub struct GivenSession {
     pub directions: Vec<u8>,
     /// No cut is 65,535 in a script's bytes.
     pub cut: Option<u16>,
-    pub states: Vec<(u8, u8)>,
-    pub reached: Vec<u8>,
+    /// Of wavelength 1, then of wavelength 2.
+    pub floods: [GivenFlood; 2],
     pub links: Vec<(u8, Link)>,
     pub nodes: u8,
     pub count: u16,
 }
 
+/// Of one wavelength the states that are not 0, each with its link, and the
+/// reached nodes.
+#[derive(Clone, Debug, Default, PartialEq, Eq)]
+pub struct GivenFlood {
+    pub states: Vec<(u8, u8)>,
+    pub reached: Vec<u8>,
+}
+
+/// A call with its link, its link and wavelength, its allowance or its
+/// wavelength.
 #[derive(Clone, Copy, Debug, PartialEq, Eq)]
 pub enum Call {
     Cut(u16),
-    Deliver(u16),
+    Deliver(u16, u8),
     Mend(u16),
-    Status(u16),
+    Status(u16, u8),
     Run(u32),
-    Route,
+    Route(u8),
 }
 
 impl Script {
@@ -79,15 +89,12 @@ impl GivenSession {
     pub fn of(session: &Session, mesh: &Mesh) -> GivenSession {
         let directions = &session.plan.directions;
         let last = directions.iter().rposition(|direction| *direction != 0);
-        let states = (0..=255).zip(session.states);
-        let reached = (0..).zip(session.reached);
         let links = (0..=255).zip(session.mesh.links);
         let differs = |(index, link): &(u8, Link)| *link != mesh.links[usize::from(*index)];
         GivenSession {
             directions: directions[..last.map_or(0, |last| last + 1)].to_vec(),
             cut: session.cut,
-            states: states.filter(|(_, state)| *state != 0).collect(),
-            reached: reached.filter(|node| node.1).map(|node| node.0).collect(),
+            floods: session.floods.both().map(GivenFlood::of),
             links: links.filter(differs).collect(),
             nodes: session.mesh.nodes,
             count: session.mesh.count,
@@ -104,13 +111,32 @@ impl GivenSession {
         session.mesh.count = self.count;
         session.plan = plan_of(&self.directions);
         session.cut = self.cut;
-        for (index, state) in &self.states {
-            session.states[usize::from(*index)] = *state;
-        }
-        for node in &self.reached {
-            session.reached[usize::from(*node)] = true;
+        for (wavelength, given) in Wavelength::BOTH.into_iter().zip(&self.floods) {
+            session.floods[wavelength] = given.flood();
         }
         session
+    }
+}
+
+impl GivenFlood {
+    fn of(flood: &Flood) -> GivenFlood {
+        let states = (0..=255).zip(flood.states);
+        let reached = (0..).zip(flood.reached);
+        GivenFlood {
+            states: states.filter(|(_, state)| *state != 0).collect(),
+            reached: reached.filter(|node| node.1).map(|node| node.0).collect(),
+        }
+    }
+
+    fn flood(&self) -> Flood {
+        let mut flood = Flood::FRESH;
+        for (index, state) in &self.states {
+            flood.states[usize::from(*index)] = *state;
+        }
+        for node in &self.reached {
+            flood.reached[usize::from(*node)] = true;
+        }
+        flood
     }
 }
 

@@ -4,13 +4,21 @@
 mod flood;
 mod length;
 mod route;
+mod rules;
+mod run;
+mod wavelength;
 
-use crate::mesh::{Mesh, MOST_LINKS, MOST_NODES};
+use crate::mesh::Mesh;
 use crate::plan::Plan;
 use crate::refusal::{refuse_if, Answer, Reason, Refusal};
-use flood::Flood;
+use crate::walks::Arc;
+use flood::greatest;
+use rules::Rules;
 
+pub use flood::{Flood, Floods};
 pub use length::RouteLength;
+pub use run::Run;
+pub use wavelength::Wavelength;
 
 pub const QUIET: u8 = 0;
 pub const OFFERED: u8 = 1;
@@ -23,8 +31,7 @@ pub struct Session {
     pub mesh: Mesh,
     pub plan: Plan,
     pub cut: Option<u16>,
-    pub states: [u8; MOST_LINKS],
-    pub reached: [bool; MOST_NODES as usize],
+    pub floods: Floods,
 }
 
 /// What a delivery did, and the node that acted.
@@ -35,15 +42,9 @@ pub enum Delivery {
     Released(u8),
 }
 
-/// How many deliveries a run made, and whether it came to rest.
-#[derive(Clone, Copy, Debug, PartialEq, Eq)]
-pub struct Run {
-    pub made: u32,
-    pub at_rest: bool,
-}
-
-/// A link's state, how many links are under way, and the route length: that of
-/// the taken links at rest under a cut, and otherwise 0.
+/// Of one wavelength a link's state, how many links are under way, and the
+/// route length: that of its taken links at rest under a cut, and otherwise 0.
+/// Rest is that of both wavelengths.
 #[derive(Clone, Copy, Debug, PartialEq, Eq)]
 pub struct Status {
     pub state: u8,
@@ -65,60 +66,46 @@ pub fn start(mesh: &Mesh, plan: &Plan) -> (Session, Answer) {
 }
 
 impl Session {
-    /// No cut, all links quiet and no node reached.
+    /// No cut, and on each wavelength all links quiet and no node reached.
     fn fresh(mesh: Mesh, plan: Plan) -> Session {
         Session {
             mesh,
             plan,
             cut: None,
-            states: [QUIET; MOST_LINKS],
-            reached: [false; MOST_NODES as usize],
+            floods: Floods::FRESH,
         }
     }
 
     /// Order of a session's record: mesh, 13.
     pub fn check(&self) -> Answer {
         check_plan(&self.mesh, &self.plan)?;
-        let (states, past) = self.states.split_at(self.mesh.counted().len());
-        let unreachable = &self.reached[self.mesh.nodes.into()..];
-        let ill_formed = greatest(states) > RELEASED
-            || greatest(past) > 0
-            || self.cut.is_some_and(|link| link >= self.mesh.count)
-            || unreachable.contains(&true);
+        let floods = self.floods.both();
+        let ill_formed = self.cut.is_some_and(|link| link >= self.mesh.count)
+            || floods.iter().any(|flood| flood.is_ill_formed(&self.mesh));
         refuse_if(ill_formed, Reason::IllFormed, 0)
     }
 
-    /// Order of a cut: the record, 12, 22.
+    /// Starts a flood on each wavelength. Order: the record, 12, 22.
     pub fn cut(&mut self, link: u16) -> Answer {
         self.check()?;
         self.check_link(link)?;
         refuse_if(self.cut.is_some(), Reason::CutStands, link.into())?;
         self.cut = Some(link);
-        Flood::after_cut_of(self, link).begin();
+        for mut rules in self.rules(link) {
+            rules.begin();
+        }
         Ok(())
     }
 
-    /// Order of a delivery: the record, 12, 23, 24.
-    pub fn deliver(&mut self, link: u16) -> Result<Delivery, Refusal> {
+    /// Order of a delivery: the record, 12, 14, 23, 24.
+    pub fn deliver(&mut self, link: u16, wavelength: u8) -> Result<Delivery, Refusal> {
         self.check()?;
         self.check_link(link)?;
+        let wavelength = Wavelength::numbered(wavelength)?;
         let cut = self.standing_cut(link.into())?;
-        let made = Flood::after_cut_of(self, cut).deliver(link.into());
+        let flood = &mut self.floods[wavelength];
+        let made = Rules::new(&self.mesh, &self.plan, cut, wavelength, flood).deliver(link.into());
         made.ok_or(Refusal::new(Reason::NotUnderWay, link.into()))
-    }
-
-    /// Delivers on the lowest link under way until rest, or until the
-    /// allowance is used. Order: the record, 23.
-    pub fn run(&mut self, allowance: u32) -> Result<Run, Refusal> {
-        self.check()?;
-        let cut = self.standing_cut(0)?;
-        let mut flood = Flood::after_cut_of(self, cut);
-        let mut made = 0;
-        while made < allowance && flood.deliver_lowest().is_some() {
-            made += 1;
-        }
-        let at_rest = self.is_at_rest();
-        Ok(Run { made, at_rest })
     }
 
     /// Order of a mend: the record, 12, 23, 26, 25.
@@ -129,32 +116,48 @@ impl Session {
         refuse_if(link != cut, Reason::NotTheCut, link.into())?;
         refuse_if(!self.is_at_rest(), Reason::NotAtRest, link.into())?;
         self.cut = None;
-        self.states.fill(QUIET);
-        self.reached.fill(false);
+        self.floods = Floods::FRESH;
         Ok(())
     }
 
-    /// Order of a status: the record, 12.
-    pub fn status(&self, link: u16) -> Result<Status, Refusal> {
+    /// Order of a status: the record, 12, 14.
+    pub fn status(&self, link: u16, wavelength: u8) -> Result<Status, Refusal> {
         self.check()?;
         self.check_link(link)?;
-        let under_way = self.states.iter().filter(|state| is_under_way(**state));
-        let busy = under_way.count();
-        let has_route = self.cut.is_some() && busy == 0;
+        let wavelength = Wavelength::numbered(wavelength)?;
+        let flood = &self.floods[wavelength];
+        let has_route = self.cut.is_some() && self.is_at_rest();
         Ok(Status {
-            state: self.states[usize::from(link)],
-            busy,
+            state: flood.states[usize::from(link)],
+            busy: flood.under_way(),
             route: if has_route {
-                self.taken_length()
+                self.taken_length(wavelength)
             } else {
                 RouteLength::Metres(0)
             },
         })
     }
 
-    /// Whether no link is under way.
+    /// Whether no link is under way on either wavelength.
     pub fn is_at_rest(&self) -> bool {
-        !self.states.iter().any(|state| is_under_way(*state))
+        self.floods.both().iter().all(|flood| flood.is_at_rest())
+    }
+
+    /// A link's primary arc on a wavelength.
+    pub fn primary_arc(&self, wavelength: Wavelength, link: u16) -> Arc {
+        let link = usize::from(link);
+        wavelength.primary_arc(&self.mesh.links[link], self.plan.directions[link])
+    }
+
+    /// The rules of each wavelength's flood under the cut of a link.
+    fn rules(&mut self, cut: u16) -> [Rules<'_>; 2] {
+        let Session {
+            mesh, plan, floods, ..
+        } = self;
+        [
+            Rules::new(mesh, plan, cut, Wavelength::One, &mut floods.first),
+            Rules::new(mesh, plan, cut, Wavelength::Two, &mut floods.second),
+        ]
     }
 
     /// 12: the place is the link named.
@@ -175,11 +178,4 @@ fn check_plan(mesh: &Mesh, plan: &Plan) -> Answer {
     let (directions, past) = plan.directions.split_at(mesh.counted().len());
     let ill_formed = greatest(directions) > 1 || greatest(past) > 0;
     refuse_if(ill_formed, Reason::IllFormed, 0)
-}
-
-/// The greatest number, 0 if there is none.
-fn greatest(numbers: &[u8]) -> u8 {
-    numbers
-        .iter()
-        .fold(0, |greatest, number| greatest.max(*number))
 }

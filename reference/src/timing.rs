@@ -7,8 +7,8 @@ pub mod program;
 
 use std::io::{self, Write};
 
-use crate::bench::{CUT, DECODE, DELIVER, ENCODE, PLAN, PLAN_IN_TWO_PASSES, RUN};
-use crate::bench::{STATUS, STATUS_AT_REST};
+use crate::bench::{CUT, DECODE, DELIVER, ENCODE, PLAN, PLAN_IN_TWO_PASSES};
+use crate::bench::{RUN, RUN_OF_FIRST, STATUS, STATUS_AT_REST};
 use crate::book::bytes_of;
 use contest::{contest, whole};
 use counter::Counter;
@@ -16,12 +16,13 @@ use meshes::{subjects, Subject};
 use program::Program;
 
 /// The name of each row, and the jobs of the measured programs and of the bench.
-const ROWS: [(&str, [u8; 2]); 9] = [
+const ROWS: [(&str, [u8; 2]); 10] = [
     ("decode", [DECODE; 2]),
     ("encode", [ENCODE; 2]),
     ("plan", [PLAN; 2]),
     ("plan, against two passes", [PLAN, PLAN_IN_TWO_PASSES]),
     ("run to rest", [RUN; 2]),
+    ("run to rest, wavelength 1 alone", [RUN_OF_FIRST; 2]),
     ("cut by value", [CUT; 2]),
     ("delivery by value", [DELIVER; 2]),
     ("status", [STATUS; 2]),

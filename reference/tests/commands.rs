@@ -23,7 +23,8 @@ fn bench_prints_the_last_result() {
         assert_prints(b'E', repeats, &P1, "E 11\n");
         assert_prints(b'P', repeats, &P1, "P accepted 010\n");
         assert_prints(b'T', repeats, &P1, "P accepted 010\n");
-        assert_prints(b'R', repeats, &P5, "R 6\n");
+        assert_prints(b'R', repeats, &P5, "R 12\n");
+        assert_prints(b'S', repeats, &P5, "S 6\n");
         assert_prints(b'L', repeats, &P5, "L taken 0\n");
         assert_prints(b'U', repeats, &P5, "U 0 2 0\n");
         assert_prints(b'V', repeats, &P5, "V 0 0 -\n");
@@ -50,11 +51,12 @@ fn bench_prints_refusals() {
     assert_prints(b'P', 3, &[1, 2, 0, 0], "P refused 20 1\n");
     assert_prints(b'T', 3, &[1, 2, 0, 0], "P refused 20 1\n");
     assert_prints(b'R', 3, &[1, 2, 0, 0], "R refused 20 1\n");
+    assert_prints(b'S', 3, &[1, 2, 0, 0], "S refused 20 1\n");
     assert_prints(b'L', 3, &[1, 2, 1, 0, 0], "L refused 21 0\n");
     assert_prints(b'U', 3, &[1, 2, 1, 0, 0], "U refused 21 0\n");
     assert_prints(b'V', 3, &[1, 2, 1, 0, 0], "V refused 21 0\n");
     assert_prints(b'E', 3, &[1, 2, 0, 0], "E 4\n");
-    for job in *b"DEPTRLUV" {
+    for job in *b"DEPTRSLUV" {
         assert_prints(job, 3, &[1, 2, 0], "refused 1 3\n");
     }
 }
@@ -102,11 +104,14 @@ fn corpus_ends_with_the_books_that_are_given() {
 
 #[test]
 fn script_writes_the_input_of_calls() {
-    let words = ["script", "cut", "4", "run", "256", "route"];
-    let expected = [b"\x0d\0", &P5[..], b"\x03\0C\x04\0R\0\x01\0\0Q"].concat();
+    let words = "script cut 4 status 257 2 run 256 deliver 3 1 route 1";
+    let words: Vec<&str> = words.split(' ').collect();
+    let calls = b"\x05\0C\x04\0T\x02\x01\x01R\0\x01\0\0D\x01\x03\0Q\x01";
+    let expected = [b"\x0d\0", &P5[..], calls].concat();
     assert_eq!(run(&words, &P5).stdout, expected);
-    let answers = "start accepted\ncut 4 accepted\nrun 256 made 6 rest\nroute accepted 1 2\n\
-        cut-is 4\nstates 42240\nreached 0 1 2 3\n";
+    let answers = "start accepted\ncut 4 accepted\nstatus 257 2 refused 12 257\n\
+        run 256 made 12 rest\ndeliver 3 1 refused 24 3\nroute 1 accepted 1 2\n\
+        cut-is 4\nstates 1 42240\nreached 1 0 1 2 3\nstates 2 42240\nreached 2 0 1 2 3\n";
     assert_eq!(run(&["calls"], &expected).stdout, answers.as_bytes());
     assert!(!run(&["calls"], b"S").status.success());
     let output = run(&["script", "cut", "4", "wait"], b"");

@@ -85,9 +85,13 @@ fn an_ill_formed_corpus_is_an_error() {
     assert!(script(&[1, 2, 0, 0], &[0, 0, 0]).is_ok());
     assert!(script(&[1, 1, 0, 0], &[0, 0, 0]).is_err());
     assert!(script(&[1, 2, 0, 0], &[3, 0, 0]).is_err());
-    let node = |node| [2, 0, 0, 255, 255, 0, 0, 1, node, 0, 2, 0, 0, 0, 0];
-    assert!(script(&[1, 2, 0, 0], &node(63)).is_ok());
-    assert!(script(&[1, 2, 0, 0], &node(64)).is_err());
+    let nodes = |first, second| {
+        let floods = [0, 0, 1, first, 0, 0, 1, second];
+        [&[2, 0, 0, 255, 255][..], &floods, &[0, 2, 0, 0, 0, 0]].concat()
+    };
+    assert!(script(&[1, 2, 0, 0], &nodes(63, 63)).is_ok());
+    assert!(script(&[1, 2, 0, 0], &nodes(64, 63)).is_err());
+    assert!(script(&[1, 2, 0, 0], &nodes(63, 64)).is_err());
     let with_257_directions = [&[1, 1, 1][..], &[0; 257 + 2]].concat();
     assert!(script(&[1, 2, 0, 0], &with_257_directions).is_err());
 }
@@ -103,9 +107,9 @@ fn each_kind_stands_together() {
 #[test]
 fn counts_and_sizes() {
     // Books, mesh records, plannings, scripts, books to list.
-    let fewest = [2_400, 2_000, 3_000, 3_900, 1_300];
-    let most_bytes = [400_000, 250_000, 500_000, 1_100_000, 250_000];
-    let longest_listings = [1_600_000, 600_000, 400_000, 6_000_000, 1_800_000];
+    let fewest = [2_400, 2_000, 3_000, 4_500, 1_300];
+    let most_bytes = [400_000, 250_000, 500_000, 1_300_000, 250_000];
+    let longest_listings = [1_600_000, 600_000, 400_000, 10_000_000, 1_800_000];
     for parts in corpora() {
         for (number, part) in parts.iter().enumerate() {
             assert!(part.cases.len() >= fewest[number]);
@@ -113,9 +117,9 @@ fn counts_and_sizes() {
             assert!(part.listing.len() < longest_listings[number]);
         }
         let bytes = parts.iter().map(|part| write_cases(&part.cases).len());
-        assert!(bytes.sum::<usize>() < 2_000_000);
+        assert!(bytes.sum::<usize>() < 2_200_000);
         let listings = parts.iter().map(|part| part.listing.len());
-        assert!(listings.sum::<usize>() < 10_000_000);
+        assert!(listings.sum::<usize>() < 13_800_000);
     }
 }
 
@@ -167,14 +171,12 @@ fn every_refusal_of_a_listing_is_met() {
     }
 }
 
-/// The refusal numbers on the lines of one kind of call, whose argument, if it
-/// has one, stands before the answer.
+/// The refusal numbers on the lines of one kind of call, whose arguments stand
+/// before the answer.
 fn script_refusals(scripts: &str, word: &str) -> BTreeSet<u8> {
     let words = scripts.lines().map(|line| line.split(' ').collect());
     let numbers = words.filter_map(|words: Vec<&str>| match words[..] {
-        [call, "refused", number, _] | [call, _, "refused", number, _] if call == word => {
-            Some(number.parse().unwrap())
-        }
+        [call, .., "refused", number, _] if call == word => Some(number.parse().unwrap()),
         _ => None,
     });
     numbers.collect()
@@ -185,11 +187,11 @@ fn every_refusal_of_a_session_is_met() {
     let record = [3, 4, 6, 7, 8, 13];
     let calls: [(&str, &[u8]); 6] = [
         ("cut", &[12, 22]),
-        ("deliver", &[12, 23, 24]),
+        ("deliver", &[12, 14, 23, 24]),
         ("mend", &[12, 23, 25, 26]),
-        ("status", &[12]),
+        ("status", &[12, 14]),
         ("run", &[23]),
-        ("route", &[23]),
+        ("route", &[14, 23]),
     ];
     for [_, _, _, scripts, _] in corpora() {
         for (word, own) in calls {
@@ -228,7 +230,7 @@ fn known_and_not_known<'a>(lengths: impl Iterator<Item = &'a str>) -> (usize, us
 /// The route length in a status line.
 fn of_status(line: &str) -> Option<&str> {
     match line.split(' ').collect::<Vec<_>>()[..] {
-        ["status", _, "state", _, "busy", _, "route", length] => Some(length),
+        ["status", _, _, "state", _, "busy", _, "route", length] => Some(length),
         _ => None,
     }
 }

@@ -4,7 +4,8 @@
 use reference::corpus::scripts::grounds::{dense, p5, triangle};
 use reference::mesh::Mesh;
 use reference::plan::plan;
-use reference::session::{start, RouteLength, Session, OFFERED, QUIET, REFUSED, RELEASED, TAKEN};
+use reference::session::{start, RouteLength, Session, Wavelength};
+use reference::session::{OFFERED, QUIET, REFUSED, RELEASED, TAKEN};
 
 use RouteLength::{Metres, NotKnown};
 
@@ -39,9 +40,15 @@ fn run_p5(lengths: [u16; 5], link: u16) -> Session {
     session
 }
 
-/// Every link's status gives the same length.
+/// The length on wavelength 1.
 fn length(session: &Session) -> RouteLength {
-    let lengths = (0..session.mesh.count).map(|link| session.status(link).unwrap().route);
+    length_on(session, 1)
+}
+
+/// Every link's status gives the same length.
+fn length_on(session: &Session, wavelength: u8) -> RouteLength {
+    let status = |link| session.status(link, wavelength).unwrap();
+    let lengths = (0..session.mesh.count).map(|link| status(link).route);
     let lengths: Vec<RouteLength> = lengths.collect();
     assert!(lengths.windows(2).all(|two| two[0] == two[1]));
     lengths[0]
@@ -75,10 +82,14 @@ fn another_order_gives_another_length() {
     let mut session = cut_p5(APART, 4);
     for link in [3, 0, 2, 1, 1] {
         assert_eq!(length(&session), Metres(0));
-        assert!(session.deliver(link).is_ok());
+        assert!(session.deliver(link, 1).is_ok());
     }
-    assert_eq!(session.route(), Ok(vec![3, 0, 2]));
+    assert_eq!(session.route(1), Ok(vec![3, 0, 2]));
+    // Wavelength 2 is not at rest.
+    assert_eq!(length(&session), Metres(0));
+    assert!(session.run(u32::MAX).unwrap().at_rest);
     assert_eq!(length(&session), Metres(4_301));
+    assert_eq!(length_on(&session, 2), Metres(320));
 }
 
 #[test]
@@ -112,9 +123,9 @@ fn zero_without_a_cut_and_before_rest() {
     assert_eq!(session.cut(4), Ok(()));
     assert_eq!(length(&session), Metres(0));
     // Link 1, which is not measured, is taken by the first delivery.
-    for _ in 0..5 {
+    for _ in 0..11 {
         assert_eq!(session.run(1).unwrap().made, 1);
-        assert_eq!(session.states[1], TAKEN);
+        assert_eq!(session.floods.first.states[1], TAKEN);
         assert_eq!(length(&session), Metres(0));
     }
     assert!(session.run(1).unwrap().at_rest);
@@ -129,7 +140,7 @@ fn zero_at_rest_under_a_cut_with_no_taken_link() {
         for state in [QUIET, RELEASED] {
             let mut session = fresh(&with_lengths(p5(), &lengths));
             session.cut = Some(4);
-            session.states[..5].fill(state);
+            session.floods.first.states[..5].fill(state);
             assert_eq!(length(&session), Metres(0));
         }
     }
@@ -140,18 +151,25 @@ fn taken_links_count_wherever_they_stand() {
     let mut session = fresh(&with_lengths(p5(), &APART));
     session.cut = Some(4);
     for (link, sum) in [(4, 50_000), (0, 50_001), (3, 54_001)] {
-        session.states[link] = TAKEN;
+        session.floods.first.states[link] = TAKEN;
         assert_eq!(length(&session), Metres(sum));
     }
     session.mesh.links[1].length = 0;
     assert_eq!(length(&session), Metres(54_001));
     session.mesh.links[3].length = 0;
     assert_eq!(length(&session), NotKnown);
+    assert_eq!(length_on(&session, 2), Metres(0));
     for state in [OFFERED, REFUSED] {
-        let mut moving = session.clone();
-        moving.states[1] = state;
-        assert_eq!(length(&moving), Metres(0));
+        for wavelength in Wavelength::BOTH {
+            let mut moving = session.clone();
+            moving.floods[wavelength].states[1] = state;
+            assert_eq!(length(&moving), Metres(0));
+        }
     }
+    // The links taken on wavelength 2 count for its own length alone.
+    session.floods.second.states[2] = TAKEN;
+    assert_eq!(length(&session), NotKnown);
+    assert_eq!(length_on(&session, 2), Metres(300));
     session.cut = None;
     assert_eq!(length(&session), Metres(0));
 }
@@ -161,11 +179,11 @@ fn sums_above_16_bits() {
     let longest = with_lengths(triangle(), &[65_535; 3]);
     let mut session = fresh(&longest);
     assert_eq!(session.cut(0), Ok(()));
-    assert!(session.run(2).unwrap().at_rest);
+    assert!(session.run(4).unwrap().at_rest);
     assert_eq!(length(&session), Metres(131_070));
     let mut session = fresh(&with_lengths(dense(), &[65_535; 256]));
     session.cut = Some(255);
-    session.states = [TAKEN; 256];
+    session.floods.first.states = [TAKEN; 256];
     assert_eq!(length(&session), Metres(16_776_960));
     session.mesh.links[255].length = 0;
     assert_eq!(length(&session), NotKnown);

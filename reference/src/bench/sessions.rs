@@ -1,5 +1,6 @@
 //! The jobs on a session of a planned mesh: a cut of the last link on a fresh
-//! one, a status at rest after that cut, the others just after it.
+//! one, a status at rest after that cut, the others just after it. A delivery
+//! and a status are those of wavelength 1.
 
 use std::hint::black_box;
 
@@ -8,11 +9,20 @@ use crate::listing::scripts::delivery;
 use crate::mesh::Mesh;
 use crate::plan::plan;
 use crate::refusal::{in_words, Refusal};
-use crate::session::{is_under_way, start, Delivery, Session, Status};
+use crate::session::{is_under_way, start, Delivery, Flood, Session, Status};
 
-/// A run to rest; the session is copied for each.
+/// A run to rest of both wavelengths; the session is copied for each.
 pub fn run_line(repeats: u32, mesh: &Mesh) -> String {
-    let made = Subject::new(mesh).and_then(|subject| {
+    last_run("R", repeats, Subject::new(mesh))
+}
+
+/// The same with wavelength 2 at rest from the beginning.
+pub fn run_of_first_line(repeats: u32, mesh: &Mesh) -> String {
+    last_run("S", repeats, Subject::with_second_at_rest(mesh))
+}
+
+fn last_run(job: &str, repeats: u32, subject: Result<Subject, Refusal>) -> String {
+    let made = subject.and_then(|subject| {
         let mut last = 0;
         for number in 0..repeats {
             let mut copy = subject.copy(number);
@@ -22,8 +32,8 @@ pub fn run_line(repeats: u32, mesh: &Mesh) -> String {
         Ok(last)
     });
     match made {
-        Ok(made) => format!("R {made}"),
-        Err(refusal) => refused("R", refusal),
+        Ok(made) => format!("{job} {made}"),
+        Err(refusal) => refused(job, refusal),
     }
 }
 
@@ -43,7 +53,8 @@ pub fn cut_line(repeats: u32, mesh: &Mesh) -> String {
 /// One delivery, on the lowest link under way; the session is copied for each.
 pub fn delivery_line(repeats: u32, mesh: &Mesh) -> String {
     let answer = Subject::new(mesh).and_then(|subject| {
-        let link = lowest_under_way(&subject.sessions[0]);
+        let first = &subject.sessions[0].floods.first;
+        let link = lowest_under_way(first).unwrap_or(0);
         let mut last = deliver(subject.copy(0), link);
         for number in 1..repeats {
             last = deliver(subject.copy(number), link);
@@ -66,10 +77,10 @@ pub fn status_at_rest_line(repeats: u32, mesh: &Mesh) -> String {
 fn last_status(job: &str, repeats: u32, subject: Result<Subject, Refusal>) -> String {
     let status = subject.and_then(|subject| {
         let last = subject.last;
-        let mut status = subject.sessions[0].status(last);
+        let mut status = subject.sessions[0].status(last, 1);
         for number in 1..repeats {
             let session = subject.session(number);
-            status = black_box(session.status(black_box(last)));
+            status = black_box(session.status(black_box(last), 1));
         }
         status
     });
@@ -80,8 +91,8 @@ fn last_status(job: &str, repeats: u32, subject: Result<Subject, Refusal>) -> St
 }
 
 /// What a job is repeated on: two sessions that differ in the length of
-/// link 0, taken by turns, each fresh, just after a cut of the last link or at
-/// rest under it.
+/// link 0, taken by turns, each fresh, just after a cut of the last link, or
+/// with wavelength 2 or both at rest under it.
 struct Subject {
     sessions: [Session; 2],
     last: u16,
@@ -93,6 +104,18 @@ impl Subject {
         let mut subject = Subject::uncut(mesh)?;
         for session in &mut subject.sessions {
             session.cut(subject.last)?;
+        }
+        Ok(subject)
+    }
+
+    /// Sessions under that cut after deliveries on wavelength 2 alone, up to
+    /// its rest.
+    fn with_second_at_rest(mesh: &Mesh) -> Result<Subject, Refusal> {
+        let mut subject = Subject::new(mesh)?;
+        for session in &mut subject.sessions {
+            while let Some(link) = lowest_under_way(&session.floods.second) {
+                session.deliver(link, 2)?;
+            }
         }
         Ok(subject)
     }
@@ -135,14 +158,14 @@ fn fresh(mesh: &Mesh) -> Result<Session, Refusal> {
     Ok(session)
 }
 
-/// A link under way; just after a cut on a planned mesh there is one.
-fn lowest_under_way(session: &Session) -> u16 {
-    let lowest = session.states.iter().position(|state| is_under_way(*state));
-    lowest.unwrap_or(0) as u16
+/// The lowest link under way; just after a cut on a planned mesh there is one.
+fn lowest_under_way(flood: &Flood) -> Option<u16> {
+    let lowest = flood.states.iter().position(|state| is_under_way(*state));
+    lowest.map(|link| link as u16)
 }
 
 fn deliver(mut session: Session, link: u16) -> Result<Delivery, Refusal> {
-    let answer = black_box(session.deliver(black_box(link)));
+    let answer = black_box(session.deliver(black_box(link), 1));
     black_box(&session);
     answer
 }

@@ -14,6 +14,7 @@ pub mod odd_lengths;
 pub mod plans;
 pub mod smallest;
 pub mod sweeps;
+pub mod wavelengths;
 
 use crate::case::Case;
 use crate::random::Random;
@@ -27,6 +28,7 @@ pub fn cases(random: &mut Random) -> Vec<Case> {
     scripts.extend(odd::scripts(random));
     scripts.extend(smallest::scripts(random));
     scripts.extend(sweeps::scripts(random));
+    scripts.extend(wavelengths::scripts(random));
     scripts.extend(lengths::scripts(random));
     scripts.extend(odd_lengths::scripts(random));
     scripts.extend(long_lists::scripts(random));

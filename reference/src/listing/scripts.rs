@@ -4,7 +4,7 @@ use super::Lines;
 use crate::mesh::MOST_LINKS;
 use crate::refusal::{in_words, Refusal};
 use crate::script::{Call, Script};
-use crate::session::{Delivery, Run, Session, Status, RELEASED};
+use crate::session::{Delivery, Flood, Run, Session, Status, Wavelength, RELEASED};
 
 /// How lines about the session on which calls are made in place begin.
 const IN_PLACE: &str = "in-place ";
@@ -33,12 +33,19 @@ impl Lines {
             None => self.line(&format!("{form}cut none")),
             Some(link) => self.line(&format!("{form}cut-is {link}")),
         }
-        let states = session.states[..links].iter().map(|state| digit(*state));
+        for wavelength in Wavelength::BOTH {
+            let flood = &session.floods[wavelength];
+            self.flood(form, wavelength.number(), flood, links);
+        }
+    }
+
+    fn flood(&mut self, form: &str, wavelength: u8, flood: &Flood, links: usize) {
+        let states = flood.states[..links].iter().map(|state| digit(*state));
         let states: String = states.collect();
-        self.line(&format!("{form}states {states}"));
-        let all = (0..).zip(session.reached);
+        self.digits(&format!("{form}states {wavelength}"), &states);
+        let all = (0..).zip(flood.reached);
         let reached = all.filter(|node| node.1).map(|node| node.0);
-        self.digits(&format!("{form}reached"), &spaced(reached));
+        self.digits(&format!("{form}reached {wavelength}"), &spaced(reached));
     }
 }
 
@@ -46,11 +53,20 @@ impl Lines {
 pub fn call_line(session: &mut Session, call: Call) -> String {
     match call {
         Call::Cut(link) => format!("cut {link} {}", in_words(session.cut(link))),
-        Call::Deliver(link) => format!("deliver {link} {}", delivery(session.deliver(link))),
+        Call::Deliver(link, wavelength) => {
+            let answer = delivery(session.deliver(link, wavelength));
+            format!("deliver {link} {wavelength} {answer}")
+        }
         Call::Mend(link) => format!("mend {link} {}", in_words(session.mend(link))),
-        Call::Status(link) => format!("status {link} {}", status(session.status(link))),
+        Call::Status(link, wavelength) => {
+            let answer = status(session.status(link, wavelength));
+            format!("status {link} {wavelength} {answer}")
+        }
         Call::Run(allowance) => format!("run {allowance} {}", run(session.run(allowance))),
-        Call::Route => format!("route {}", route(session.route())),
+        Call::Route(wavelength) => {
+            let answer = route(session.route(wavelength));
+            format!("route {wavelength} {answer}")
+        }
     }
 }
 
@@ -108,7 +124,7 @@ mod tests {
     use crate::listing::listing;
     use crate::mesh::Mesh;
     use crate::plan::Plan;
-    use crate::script::{Call, GivenSession, Origin, Script};
+    use crate::script::{Call, GivenFlood, GivenSession, Origin, Script};
 
     fn listed(origin: Origin, calls: Vec<Call>) -> String {
         let book = vec![1, 3, 3, 0, 0, 2, 2, 1, 1];
@@ -136,9 +152,13 @@ mod tests {
         format!("{before}{calls}{session}{}", again(&session))
     }
 
-    /// A session's lines before its digest.
-    fn state(cut: &str, states: &str, reached: &str) -> String {
-        format!("{cut}\nstates {states:0<256}\n{reached}\n")
+    /// A session's lines before its digest: the states and the reached nodes of
+    /// each wavelength.
+    fn state(cut: &str, [first, second]: [(&str, &str); 2]) -> String {
+        let lines = |number, (states, reached): (&str, &str)| {
+            format!("states {number} {states:0<256}\nreached {number}{reached}\n")
+        };
+        format!("{cut}\n{}{}", lines(1, first), lines(2, second))
     }
 
     /// The digest of the triangle and these directions.
@@ -151,34 +171,48 @@ mod tests {
     #[test]
     fn lists_p2() {
         let calls = vec![
-            Call::Status(0),
+            Call::Status(0, 1),
+            Call::Status(3, 0),
+            Call::Status(0, 3),
             Call::Cut(0),
             Call::Cut(1),
-            Call::Deliver(1),
-            Call::Route,
+            Call::Deliver(1, 1),
+            Call::Route(1),
             Call::Run(0),
-            Call::Deliver(2),
-            Call::Run(0),
-            Call::Status(2),
-            Call::Route,
+            Call::Deliver(2, 1),
+            Call::Route(1),
+            Call::Status(2, 1),
+            Call::Mend(0),
+            Call::Status(2, 2),
+            Call::Route(2),
+            Call::Run(100),
+            Call::Status(2, 1),
+            Call::Status(2, 2),
+            Call::Route(2),
+            Call::Route(0),
+            Call::Deliver(2, 255),
             Call::Mend(3),
         ];
         let before = "script 0\nstart accepted\n";
-        let lines = "status 0 state 0 busy 0 route 0\ncut 0 accepted\n\
-            cut 1 refused 22 1\ndeliver 1 taken 2\nroute accepted\nrun 0 made 0 moving\n\
-            deliver 2 taken 1\nrun 0 made 0 rest\nstatus 2 state 2 busy 0 route -\n\
-            route accepted 1 2\nmend 3 refused 12 3\n";
-        let session = state("cut-is 0", "022", "reached 0 1 2");
+        let lines = "status 0 1 state 0 busy 0 route 0\nstatus 3 0 refused 12 3\n\
+            status 0 3 refused 14 0\ncut 0 accepted\ncut 1 refused 22 1\n\
+            deliver 1 1 taken 2\nroute 1 accepted\nrun 0 made 0 moving\n\
+            deliver 2 1 taken 1\nroute 1 accepted 1 2\nstatus 2 1 state 2 busy 0 route 0\n\
+            mend 0 refused 25 0\nstatus 2 2 state 1 busy 1 route 0\nroute 2 accepted\n\
+            run 100 made 2 rest\nstatus 2 1 state 2 busy 0 route -\n\
+            status 2 2 state 2 busy 0 route -\nroute 2 accepted 2 1\n\
+            route 0 refused 14 0\ndeliver 2 255 refused 14 0\nmend 3 refused 12 3\n";
+        let session = state("cut-is 0", [("022", " 0 1 2"), ("022", " 0 1 2")]);
         let expected = both(before, lines, &session, of_triangle(&[0, 1, 0]));
         assert_eq!(listed(Origin::OwnPlan, calls), expected);
     }
 
     #[test]
     fn lists_a_refused_start() {
-        let calls = vec![Call::Run(7), Call::Route, Call::Deliver(0)];
+        let calls = vec![Call::Run(7), Call::Route(0), Call::Deliver(0, 1)];
         let before = "script 0\nstart refused 13 0\n";
-        let lines = "run 7 refused 3 0\nroute refused 3 0\ndeliver 0 refused 3 0\n";
-        let session = state("cut none", "", "reached");
+        let lines = "run 7 refused 3 0\nroute 0 refused 3 0\ndeliver 0 1 refused 3 0\n";
+        let session = state("cut none", [("", ""), ("", "")]);
         let zero = digest(&Mesh::ZERO, &Plan::ZERO);
         let expected = both(before, lines, &session, zero);
         assert_eq!(listed(Origin::GivenPlan(vec![0, 2]), calls), expected);
@@ -186,19 +220,26 @@ mod tests {
 
     #[test]
     fn lists_a_given_session() {
+        let first = GivenFlood {
+            states: vec![(1, 4), (2, 255)],
+            reached: vec![2, 63],
+        };
+        let second = GivenFlood {
+            states: vec![(0, 3)],
+            reached: vec![1],
+        };
         let given = GivenSession {
             directions: vec![1],
             cut: Some(65_534),
-            states: vec![(1, 4), (2, 255)],
-            reached: vec![2, 63],
+            floods: [first, second],
             links: Vec::new(),
             nodes: 3,
             count: 3,
         };
         let origin = Origin::GivenSession(Box::new(given));
-        let lines = "status 9 refused 13 0\n";
-        let session = state("cut-is 65534", "04?", "reached 2 63");
+        let lines = "status 9 2 refused 13 0\n";
+        let session = state("cut-is 65534", [("04?", " 2 63"), ("3", " 1")]);
         let expected = both("script 0\n", lines, &session, of_triangle(&[1]));
-        assert_eq!(listed(origin, vec![Call::Status(9)]), expected);
+        assert_eq!(listed(origin, vec![Call::Status(9, 2)]), expected);
     }
 }

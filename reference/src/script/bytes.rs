@@ -1,6 +1,6 @@
 //! The bytes of a script, without the byte that tells its kind.
 
-use super::{Call, GivenSession, Origin, Script};
+use super::{Call, GivenFlood, GivenSession, Origin, Script};
 use crate::book::decode;
 use crate::mesh::{Link, MOST_LINKS, MOST_NODES};
 use crate::reader::Reader;
@@ -51,12 +51,9 @@ fn write_directions(directions: &[u8], output: &mut Vec<u8>) {
 fn write_session(given: &GivenSession, output: &mut Vec<u8>) {
     write_directions(&given.directions, output);
     output.extend(given.cut.unwrap_or(NO_CUT).to_le_bytes());
-    output.extend((given.states.len() as u16).to_le_bytes());
-    for (index, state) in &given.states {
-        output.extend([index, state]);
+    for flood in &given.floods {
+        write_flood(flood, output);
     }
-    output.push(given.reached.len() as u8);
-    output.extend(&given.reached);
     output.push(given.links.len() as u8);
     for (index, link) in &given.links {
         output.extend([*index, link.low, link.high]);
@@ -67,19 +64,33 @@ fn write_session(given: &GivenSession, output: &mut Vec<u8>) {
     output.extend(given.count.to_le_bytes());
 }
 
+fn write_flood(flood: &GivenFlood, output: &mut Vec<u8>) {
+    output.extend((flood.states.len() as u16).to_le_bytes());
+    for (index, state) in &flood.states {
+        output.extend([index, state]);
+    }
+    output.push(flood.reached.len() as u8);
+    output.extend(&flood.reached);
+}
+
 fn write_call(call: Call, output: &mut Vec<u8>) {
-    let (kind, link) = match call {
-        Call::Cut(link) => (CUT, link),
-        Call::Deliver(link) => (DELIVER, link),
-        Call::Mend(link) => (MEND, link),
-        Call::Status(link) => (STATUS, link),
+    match call {
+        Call::Cut(link) => write_named(CUT, None, link, output),
+        Call::Deliver(link, wavelength) => write_named(DELIVER, Some(wavelength), link, output),
+        Call::Mend(link) => write_named(MEND, None, link, output),
+        Call::Status(link, wavelength) => write_named(STATUS, Some(wavelength), link, output),
         Call::Run(allowance) => {
             output.push(RUN);
-            return output.extend(allowance.to_le_bytes());
+            output.extend(allowance.to_le_bytes());
         }
-        Call::Route => return output.push(ROUTE),
-    };
+        Call::Route(wavelength) => output.extend([ROUTE, wavelength]),
+    }
+}
+
+/// A call that names a link, after its wavelength if it names one.
+fn write_named(kind: u8, wavelength: Option<u8>, link: u16, output: &mut Vec<u8>) {
     output.push(kind);
+    output.extend(wavelength);
     output.extend(link.to_le_bytes());
 }
 
@@ -117,23 +128,27 @@ fn read_directions(reader: &mut Reader) -> Option<Vec<u8>> {
 fn read_session(reader: &mut Reader) -> Option<GivenSession> {
     let directions = read_directions(reader)?;
     let cut = Some(reader.two()?).filter(|cut| *cut != NO_CUT);
-    let count = reader.two()?;
-    let states: Option<Vec<(u8, u8)>> = (0..count).map(|_| read_state(reader)).collect();
-    let count = reader.one()?;
-    let reached = reader.take(count.into())?.to_vec();
+    let floods = [read_flood(reader)?, read_flood(reader)?];
     let count = reader.one()?;
     let links: Option<Vec<(u8, Link)>> = (0..count).map(|_| read_link(reader)).collect();
-    let given = GivenSession {
+    Some(GivenSession {
         directions,
         cut,
-        states: states?,
-        reached,
+        floods,
         links: links?,
         nodes: reader.one()?,
         count: reader.two()?,
-    };
-    let are_nodes = given.reached.iter().all(|node| *node < MOST_NODES);
-    are_nodes.then_some(given)
+    })
+}
+
+fn read_flood(reader: &mut Reader) -> Option<GivenFlood> {
+    let count = reader.two()?;
+    let states: Option<Vec<(u8, u8)>> = (0..count).map(|_| read_state(reader)).collect();
+    let states = states?;
+    let count = reader.one()?;
+    let reached = reader.take(count.into())?.to_vec();
+    let are_nodes = reached.iter().all(|node| *node < MOST_NODES);
+    are_nodes.then_some(GivenFlood { states, reached })
 }
 
 fn read_state(reader: &mut Reader) -> Option<(u8, u8)> {
@@ -154,11 +169,18 @@ fn read_link(reader: &mut Reader) -> Option<(u8, Link)> {
 fn read_call(reader: &mut Reader) -> Option<Call> {
     match reader.one()? {
         CUT => reader.two().map(Call::Cut),
-        DELIVER => reader.two().map(Call::Deliver),
+        DELIVER => read_named(Call::Deliver, reader),
         MEND => reader.two().map(Call::Mend),
-        STATUS => reader.two().map(Call::Status),
+        STATUS => read_named(Call::Status, reader),
         RUN => reader.four().map(Call::Run),
-        ROUTE => Some(Call::Route),
+        ROUTE => reader.one().map(Call::Route),
         _ => None,
     }
+}
+
+/// A call that names a wavelength, which stands before the link.
+fn read_named(call: fn(u16, u8) -> Call, reader: &mut Reader) -> Option<Call> {
+    let wavelength = reader.one()?;
+    let link = reader.two()?;
+    Some(call(link, wavelength))
 }

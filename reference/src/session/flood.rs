@@ -1,128 +1,84 @@
-//! The rules of a flood, on a session whose record is well formed. Arcs are
-//! back-up arcs here: the primary ones turned round.
+//! What a session holds for one wavelength.
 
-use super::{is_under_way, Delivery, Session, OFFERED, QUIET, REFUSED, RELEASED, TAKEN};
-use crate::mesh::Link;
-use crate::walks::{arc, Arc};
+use std::ops::{Index, IndexMut};
 
-pub struct Flood<'a> {
-    links: &'a [Link],
-    directions: &'a [u8],
-    states: &'a mut [u8],
-    reached: &'a mut [bool],
-    cut: usize,
-    /// The cut link's primary arc leads from x to y.
-    x: u8,
-    y: u8,
+use super::{is_under_way, Wavelength, QUIET, RELEASED};
+use crate::mesh::{Mesh, MOST_LINKS, MOST_NODES};
+
+/// A state per link and the reached nodes.
+#[derive(Clone, Debug, PartialEq, Eq)]
+pub struct Flood {
+    pub states: [u8; MOST_LINKS],
+    pub reached: [bool; MOST_NODES as usize],
 }
 
-impl Flood<'_> {
-    pub fn after_cut_of(session: &mut Session, cut: u16) -> Flood<'_> {
-        let links = session.mesh.counted();
-        let directions = &session.plan.directions[..links.len()];
-        let cut = usize::from(cut);
-        let (x, y) = arc(&links[cut], directions[cut]);
-        Flood {
-            links,
-            directions,
-            states: &mut session.states[..links.len()],
-            reached: &mut session.reached,
-            cut,
-            x,
-            y,
+/// The flood of each wavelength.
+#[derive(Clone, Debug, PartialEq, Eq)]
+pub struct Floods {
+    pub first: Flood,
+    pub second: Flood,
+}
+
+impl Flood {
+    /// All links quiet and no node reached.
+    pub const FRESH: Flood = Flood {
+        states: [QUIET; MOST_LINKS],
+        reached: [false; MOST_NODES as usize],
+    };
+
+    /// How many links are under way.
+    pub fn under_way(&self) -> usize {
+        let under_way = self.states.iter().filter(|state| is_under_way(**state));
+        under_way.count()
+    }
+
+    pub fn is_at_rest(&self) -> bool {
+        !self.states.iter().any(|state| is_under_way(*state))
+    }
+
+    /// Whether a state is above 4 or, past the last link, above 0, or a node
+    /// not below N is reached.
+    pub fn is_ill_formed(&self, mesh: &Mesh) -> bool {
+        let (states, past) = self.states.split_at(mesh.counted().len());
+        let unreachable = &self.reached[mesh.nodes.into()..];
+        greatest(states) > RELEASED || greatest(past) > 0 || unreachable.contains(&true)
+    }
+}
+
+impl Floods {
+    pub const FRESH: Floods = Floods {
+        first: Flood::FRESH,
+        second: Flood::FRESH,
+    };
+
+    pub fn both(&self) -> [&Flood; 2] {
+        [&self.first, &self.second]
+    }
+}
+
+impl Index<Wavelength> for Floods {
+    type Output = Flood;
+
+    fn index(&self, wavelength: Wavelength) -> &Flood {
+        match wavelength {
+            Wavelength::One => &self.first,
+            Wavelength::Two => &self.second,
         }
     }
+}
 
-    /// x is reached; every link leaving x, save the cut one, becomes offered,
-    /// whatever its state.
-    pub fn begin(&mut self) {
-        self.reached[usize::from(self.x)] = true;
-        for link in 0..self.links.len() {
-            if self.leaves(link, self.x) && link != self.cut {
-                self.states[link] = OFFERED;
-            }
+impl IndexMut<Wavelength> for Floods {
+    fn index_mut(&mut self, wavelength: Wavelength) -> &mut Flood {
+        match wavelength {
+            Wavelength::One => &mut self.first,
+            Wavelength::Two => &mut self.second,
         }
     }
+}
 
-    /// A delivery on the lowest link under way; none at rest.
-    pub fn deliver_lowest(&mut self) -> Option<Delivery> {
-        let lowest = self.states.iter().position(|state| is_under_way(*state));
-        lowest.and_then(|link| self.deliver(link))
-    }
-
-    /// A delivery on a link; none if it is not under way.
-    pub fn deliver(&mut self, link: usize) -> Option<Delivery> {
-        match self.states[link] {
-            OFFERED => Some(self.deliver_offer(link)),
-            REFUSED => Some(self.deliver_refusal(link)),
-            _ => None,
-        }
-    }
-
-    /// On an offered link a to b: b takes it if b was not reached and either
-    /// is y or has a link to offer.
-    fn deliver_offer(&mut self, link: usize) -> Delivery {
-        let (_, b) = self.back_up_arc(link);
-        if self.reach(b) && (b == self.y || self.offer_quiet(b)) {
-            self.states[link] = TAKEN;
-            Delivery::Taken(b)
-        } else {
-            self.states[link] = REFUSED;
-            Delivery::Turned(b)
-        }
-    }
-
-    /// On a refused link a to b: a releases it, and also refuses the lowest
-    /// taken link into a where a is not x and nothing leaving a is in use.
-    fn deliver_refusal(&mut self, link: usize) -> Delivery {
-        let (a, _) = self.back_up_arc(link);
-        self.states[link] = RELEASED;
-        if a != self.x && !self.has_use_of_a_link(a) {
-            if let Some(into) = self.lowest_taken_into(a) {
-                self.states[into] = REFUSED;
-            }
-        }
-        Delivery::Released(a)
-    }
-
-    /// Makes a node reached; whether it was not yet.
-    fn reach(&mut self, node: u8) -> bool {
-        let reached = &mut self.reached[usize::from(node)];
-        let is_new = !*reached;
-        *reached = true;
-        is_new
-    }
-
-    /// Every quiet link leaving the node, save the cut one, becomes offered;
-    /// whether there is one.
-    fn offer_quiet(&mut self, node: u8) -> bool {
-        let mut offered = false;
-        for link in 0..self.links.len() {
-            if self.states[link] == QUIET && self.leaves(link, node) && link != self.cut {
-                self.states[link] = OFFERED;
-                offered = true;
-            }
-        }
-        offered
-    }
-
-    /// Whether a link leaving the node is offered, taken or refused.
-    fn has_use_of_a_link(&self, node: u8) -> bool {
-        let in_use = |link| matches!(self.states[link], OFFERED | TAKEN | REFUSED);
-        (0..self.links.len()).any(|link| in_use(link) && self.leaves(link, node))
-    }
-
-    fn lowest_taken_into(&self, node: u8) -> Option<usize> {
-        let enters = |link| self.back_up_arc(link).1 == node;
-        (0..self.links.len()).find(|link| self.states[*link] == TAKEN && enters(*link))
-    }
-
-    fn leaves(&self, link: usize, node: u8) -> bool {
-        self.back_up_arc(link).0 == node
-    }
-
-    fn back_up_arc(&self, link: usize) -> Arc {
-        let (from, to) = arc(&self.links[link], self.directions[link]);
-        (to, from)
-    }
+/// The greatest number, 0 if there is none.
+pub fn greatest(numbers: &[u8]) -> u8 {
+    numbers
+        .iter()
+        .fold(0, |greatest, number| greatest.max(*number))
 }

@@ -2,7 +2,7 @@
 
 use std::fmt;
 
-use super::{Session, TAKEN};
+use super::{Session, Wavelength, TAKEN};
 
 /// A number of metres, or not known because a link is not measured.
 #[derive(Clone, Copy, Debug, PartialEq, Eq)]
@@ -22,10 +22,11 @@ impl fmt::Display for RouteLength {
 }
 
 impl Session {
-    /// The lengths of all taken links together; not known where one of these
-    /// links is not measured.
-    pub(super) fn taken_length(&self) -> RouteLength {
-        let links = self.mesh.counted().iter().zip(&self.states);
+    /// The lengths of all links taken on a wavelength together; not known where
+    /// one of these links is not measured.
+    pub(super) fn taken_length(&self, wavelength: Wavelength) -> RouteLength {
+        let states = &self.floods[wavelength].states;
+        let links = self.mesh.counted().iter().zip(states);
         let taken = links.filter(|(_, state)| **state == TAKEN);
         let metres: Option<u32> = taken.map(|(link, _)| link.metres()).sum();
         metres.map_or(RouteLength::NotKnown, RouteLength::Metres)

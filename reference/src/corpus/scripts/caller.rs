@@ -4,7 +4,7 @@ use crate::book::bytes_of;
 use crate::mesh::Mesh;
 use crate::random::Random;
 use crate::script::{Call, GivenSession, Origin, Script};
-use crate::session::{is_under_way, Session};
+use crate::session::{is_under_way, Session, Wavelength};
 
 pub struct Caller<'a> {
     pub session: Session,
@@ -42,10 +42,10 @@ impl<'a> Caller<'a> {
         let session = &mut self.session;
         match call {
             Call::Cut(link) => _ = session.cut(link),
-            Call::Deliver(link) => _ = session.deliver(link),
+            Call::Deliver(link, wavelength) => _ = session.deliver(link, wavelength),
             Call::Mend(link) => _ = session.mend(link),
             Call::Run(allowance) => _ = session.run(allowance),
-            Call::Status(_) | Call::Route => (),
+            Call::Status(..) | Call::Route(_) => (),
         }
         self.script.calls.push(call);
     }
@@ -74,13 +74,40 @@ impl<'a> Caller<'a> {
         }
     }
 
-    /// A link under way, if there is one.
-    pub fn under_way(&mut self) -> Option<u16> {
-        let numbered = (0..).zip(self.session.states);
-        let links: Vec<u16> = numbered
-            .filter(|(_, state)| is_under_way(*state))
-            .map(|(link, _)| link)
-            .collect();
+    /// 1 or 2.
+    pub fn inner_wavelength(&mut self) -> u8 {
+        self.random.between(1, 2) as u8
+    }
+
+    /// The number of a wavelength, mostly 1 or 2.
+    pub fn wavelength(&mut self) -> u8 {
+        match self.random.below(30) {
+            0 => 0,
+            1 => 3,
+            2 => 255,
+            _ => self.inner_wavelength(),
+        }
+    }
+
+    /// A link under way and its wavelength, if there is one.
+    pub fn under_way(&mut self) -> Option<(u16, u8)> {
+        self.under_way_on(&Wavelength::BOTH)
+    }
+
+    /// The same, of this wavelength where it is not at rest.
+    fn under_way_first(&mut self, wavelength: Option<Wavelength>) -> Option<(u16, u8)> {
+        let first = wavelength.and_then(|wavelength| self.under_way_on(&[wavelength]));
+        first.or_else(|| self.under_way())
+    }
+
+    /// The same, of these wavelengths alone.
+    pub fn under_way_on(&mut self, wavelengths: &[Wavelength]) -> Option<(u16, u8)> {
+        let mut links = Vec::new();
+        for wavelength in wavelengths {
+            let numbered = (0..).zip(self.session.floods[*wavelength].states);
+            let under_way = numbered.filter(|(_, state)| is_under_way(*state));
+            links.extend(under_way.map(|(link, _)| (link, wavelength.number())));
+        }
         (!links.is_empty()).then(|| self.random.pick(&links))
     }
 
@@ -97,8 +124,31 @@ impl<'a> Caller<'a> {
     /// A delivery, mostly on a link under way.
     pub fn delivery(&mut self) -> Call {
         let any = self.random.below(12) == 0;
-        let link = self.under_way().filter(|_| !any);
-        Call::Deliver(link.unwrap_or_else(|| self.link()))
+        match self.under_way().filter(|_| !any) {
+            Some((link, wavelength)) => Call::Deliver(link, wavelength),
+            None => self.any_delivery(),
+        }
+    }
+
+    pub fn any_delivery(&mut self) -> Call {
+        Call::Deliver(self.link(), self.wavelength())
+    }
+
+    pub fn status(&mut self) -> Call {
+        Call::Status(self.link(), self.wavelength())
+    }
+
+    pub fn route(&mut self) -> Call {
+        Call::Route(self.wavelength())
+    }
+
+    /// A status on each wavelength.
+    pub fn both_statuses(&mut self, link: u16) {
+        self.make_all(&[1, 2].map(|wavelength| Call::Status(link, wavelength)));
+    }
+
+    pub fn both_routes(&mut self) {
+        self.make_all(&[1, 2].map(Call::Route));
     }
 
     /// A mend, mostly of the cut link.
@@ -111,8 +161,8 @@ impl<'a> Caller<'a> {
     /// A status or the route.
     pub fn question(&mut self) -> Call {
         match self.random.below(3) {
-            0 => Call::Route,
-            _ => Call::Status(self.link()),
+            0 => self.route(),
+            _ => self.status(),
         }
     }
 
@@ -145,17 +195,20 @@ impl<'a> Caller<'a> {
     }
 
     /// Deliveries on links under way in random order until rest, `most` calls
-    /// at most, with other calls between them.
+    /// at most, with other calls between them. The wavelengths are mixed, or one
+    /// of them comes first.
     pub fn flood(&mut self, most: usize) {
+        let [one, two] = Wavelength::BOTH.map(Some);
+        let first = self.random.pick(&[None, None, one, two]);
         for _ in 0..most {
-            let Some(link) = self.under_way() else {
+            let Some((link, wavelength)) = self.under_way_first(first) else {
                 return;
             };
             let call = match self.random.below(36) {
                 0..=3 => self.hindrance(),
                 4 => self.delivery(),
-                5..=8 => Call::Status(self.link()),
-                _ => Call::Deliver(link),
+                5..=8 => self.status(),
+                _ => Call::Deliver(link, wavelength),
             };
             self.make(call);
         }

@@ -10,35 +10,50 @@ const PLAIN: &str = "examples/four-node.book";
 const MEASURED: &str = "examples/four-node-measured.book";
 
 /// The book and the calls of each part, as its command names them.
-const PARTS: [(&str, &str); 10] = [
-    (PLAIN, "status 1 cut 4 status 1"),
+const PARTS: [(&str, &str); 14] = [
+    (PLAIN, "status 1 1 cut 4 status 1 1"),
     (
         PLAIN,
-        "cut 4 status 3 deliver 1 status 2 deliver 2 status 2 deliver 3 status 0 \
-         deliver 0 status 0 deliver 0 status 3 deliver 3 status 3 route mend 4 status 3",
+        "cut 4 status 3 1 deliver 1 1 status 2 1 deliver 2 1 status 2 1 deliver 3 1 \
+         status 0 1 deliver 0 1 status 0 1 deliver 0 1 status 3 1 deliver 3 1 status 3 1 \
+         route 1 run 100 status 3 1 mend 4 status 3 1",
     ),
-    (PLAIN, "cut 4 run 2 run 100 route"),
+    (PLAIN, "cut 4 run 2 run 100 route 1"),
     (
         PLAIN,
-        "cut 4 status 3 deliver 3 status 0 deliver 0 status 2 deliver 2 status 2 \
-         deliver 1 status 1 deliver 1 status 1 route mend 4 status 1",
+        "cut 4 status 3 1 deliver 3 1 status 0 1 deliver 0 1 status 2 1 deliver 2 1 \
+         status 2 1 deliver 1 1 status 1 1 deliver 1 1 status 1 1 route 1 run 100 \
+         status 1 1 mend 4 status 1 1",
     ),
     (
         PLAIN,
-        "mend 4 cut 4 cut 1 deliver 4 deliver 2 mend 4 status 1 run 100 deliver 1 \
-         mend 1 mend 4 cut 5",
+        "mend 4 cut 4 cut 1 deliver 4 1 deliver 2 1 deliver 1 3 mend 4 status 1 1 \
+         run 100 deliver 1 1 mend 1 mend 4 cut 5 status 5 3",
     ),
     (
         MEASURED,
-        "cut 4 run 2 status 3 run 100 status 3 route mend 4 status 3",
+        "cut 4 run 2 status 3 1 run 100 status 3 1 route 1 mend 4 status 3 1",
     ),
     (
         MEASURED,
-        "cut 4 deliver 3 deliver 0 deliver 2 deliver 1 deliver 1 status 3 route",
+        "cut 4 deliver 3 1 deliver 0 1 deliver 2 1 deliver 1 1 deliver 1 1 run 100 \
+         status 3 1 route 1",
     ),
-    (PLAIN, "cut 4 deliver 1 deliver 3 status 0 status 2"),
-    (PLAIN, "cut 2 status 4 run 100 route"),
-    (MEASURED, "cut 3 run 100 status 3 route"),
+    (MEASURED, "cut 4 status 2 1 status 2 2"),
+    (
+        MEASURED,
+        "cut 4 deliver 2 2 deliver 1 1 status 1 1 status 1 2 deliver 0 2 deliver 3 2 \
+         deliver 1 2 deliver 1 2 status 1 2 route 2 mend 4 run 100 status 1 1 status 1 2 \
+         route 1 route 2 mend 4",
+    ),
+    (
+        MEASURED,
+        "cut 4 run 2 status 2 1 status 2 2 run 1 status 2 2 run 100 route 1 route 2",
+    ),
+    (PLAIN, "cut 4 deliver 1 1 deliver 3 1 status 0 1 status 2 1"),
+    (PLAIN, "cut 2 status 4 1 run 100 route 1"),
+    (MEASURED, "cut 3 run 100 status 3 1 route 1"),
+    (PLAIN, "cut 2 status 0 2 status 1 2 run 100 route 2"),
 ];
 
 pub fn scripts() -> Vec<Script> {

@@ -2,15 +2,17 @@
 
 use super::super::wrong_meshes::wrong_meshes;
 use crate::mesh::{Link, Mesh, MOST_NODES};
-use crate::session::Session;
+use crate::session::{Session, Wavelength};
 
 /// Every kind of ill-formed session made from a good one with three links to
 /// 254 and fewer than 63 nodes.
 pub fn wrong_sessions(good: &Session) -> Vec<Session> {
     let mut sessions = wrong_directions(good);
-    sessions.extend(wrong_states(good));
     sessions.extend(wrong_cuts(good));
-    sessions.extend(wrong_reached(good));
+    for wavelength in Wavelength::BOTH {
+        sessions.extend(wrong_states(good, wavelength));
+        sessions.extend(wrong_reached(good, wavelength));
+    }
     sessions.extend(wrong_mesh(good));
     sessions.extend(several_wrong(good));
     sessions
@@ -30,13 +32,13 @@ fn wrong_directions(good: &Session) -> Vec<Session> {
 }
 
 /// 13: a state above 4, and one past L that is not 0.
-fn wrong_states(good: &Session) -> Vec<Session> {
+fn wrong_states(good: &Session, wavelength: Wavelength) -> Vec<Session> {
     let count = good.mesh.counted().len();
     let places = [(0, 5), (0, 255), (count / 2, 6), (count - 1, 5)];
     let past = [(count, 1), (count, 4), (count, 5), (255, 2), (255, 255)];
     let with = |(place, state): (usize, u8)| {
         let mut session = good.clone();
-        session.states[place] = state;
+        session.floods[wavelength].states[place] = state;
         session
     };
     places.into_iter().chain(past).map(with).collect()
@@ -54,12 +56,12 @@ fn wrong_cuts(good: &Session) -> Vec<Session> {
 }
 
 /// 13: a reached node not below N.
-fn wrong_reached(good: &Session) -> Vec<Session> {
+fn wrong_reached(good: &Session, wavelength: Wavelength) -> Vec<Session> {
     let nodes = usize::from(good.mesh.nodes);
     let last = usize::from(MOST_NODES) - 1;
     let with = |node: usize| {
         let mut session = good.clone();
-        session.reached[node] = true;
+        session.floods[wavelength].reached[node] = true;
         session
     };
     [nodes, (nodes + last) / 2, last].map(with).into()
@@ -100,9 +102,10 @@ fn several_wrong(good: &Session) -> Vec<Session> {
     let last = good.mesh.counted().len() - 1;
     let mut all = good.clone();
     all.plan.directions[last] = 2;
-    all.states[last] = 5;
+    all.floods.first.states[last] = 5;
+    all.floods.second.states[0] = 255;
     all.cut = Some(good.mesh.count);
-    all.reached[usize::from(MOST_NODES) - 1] = true;
+    all.floods.second.reached[usize::from(MOST_NODES) - 1] = true;
     let mut past = all.clone();
     past.mesh.links[255].length = 1;
     let with_last = |low, high| {

@@ -40,9 +40,9 @@ fn good_sessions(mesh: &Mesh, random: &mut Random) -> [Session; 3] {
 /// Faults at the last of 256 links and at the last of 64 nodes; some are none,
 /// as every link number below 256 is a link and every node below 64 a node.
 fn wrong_largest(good: &Session) -> Vec<Session> {
-    let mut sessions = vec![good.clone(); 9];
+    let mut sessions = vec![good.clone(); 11];
     sessions[0].plan.directions[255] = 2;
-    sessions[1].states[255] = 5;
+    sessions[1].floods.first.states[255] = 5;
     sessions[2].cut = Some(256);
     sessions[3].cut = Some(65_534);
     sessions[4].mesh.count = 255;
@@ -50,7 +50,10 @@ fn wrong_largest(good: &Session) -> Vec<Session> {
     sessions[6].mesh.count = 257;
     // Well formed.
     sessions[7].cut = Some(255);
-    sessions[8].reached[63] = true;
+    sessions[8].floods.first.reached[63] = true;
+    sessions[9].floods.second.reached[63] = true;
+    // Ill formed again.
+    sessions[10].floods.second.states[255] = 5;
     sessions
 }
 
@@ -59,11 +62,11 @@ fn called(session: &Session, mesh: &Mesh, random: &mut Random) -> Script {
     let mut caller = Caller::on(session, mesh, random);
     let mut calls = [
         Call::Cut(caller.link()),
-        Call::Deliver(caller.under_way().unwrap_or(0)),
+        caller.delivery(),
         Call::Mend(session.cut.unwrap_or(0)),
-        Call::Status(caller.link()),
+        caller.status(),
         Call::Run(caller.allowance()),
-        Call::Route,
+        caller.route(),
     ];
     caller.random.shuffle(&mut calls);
     caller.make_all(&calls);
@@ -91,11 +94,11 @@ mod tests {
             let before = session.clone();
             if let Err(refusal) = session.check() {
                 assert_eq!(session.cut(0), Err(refusal));
-                assert_eq!(session.deliver(0), Err(refusal));
+                assert_eq!(session.deliver(0, 2), Err(refusal));
                 assert_eq!(session.mend(0), Err(refusal));
                 assert_eq!(session.run(u32::MAX), Err(refusal));
-                assert_eq!(session.status(0), Err(refusal));
-                assert_eq!(session.route(), Err(refusal));
+                assert_eq!(session.status(0, 0), Err(refusal));
+                assert_eq!(session.route(1), Err(refusal));
                 assert_eq!(session, before);
             }
         }

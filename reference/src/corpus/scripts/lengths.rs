@@ -53,13 +53,15 @@ fn two_recoveries(mesh: &Mesh, link: u16, random: &mut Random) -> Script {
     let mut caller = Caller::new(mesh, Origin::OwnPlan, random);
     let half = u32::from(mesh.nodes) / 2;
     ask(&mut caller, 1);
-    caller.make_all(&[Call::Cut(link), Call::Status(link), Call::Run(half)]);
+    caller.make_all(&[Call::Cut(link), Call::Status(link, 1), Call::Run(half)]);
     ask(&mut caller, 1);
-    caller.make_all(&[Call::Run(u32::MAX), Call::Status(link)]);
-    ask(&mut caller, 2);
-    caller.make_all(&[Call::Mend(link), Call::Status(link)]);
+    caller.make(Call::Run(u32::MAX));
+    caller.both_statuses(link);
+    ask(&mut caller, 1);
+    caller.make_all(&[Call::Mend(link), Call::Status(link, 2)]);
     let other = (link + 1) % mesh.count;
-    caller.make_all(&[Call::Cut(other), Call::Run(u32::MAX), Call::Status(link)]);
+    caller.make_all(&[Call::Cut(other), Call::Run(u32::MAX)]);
+    caller.both_statuses(link);
     caller.script()
 }
 
@@ -88,7 +90,8 @@ fn every_cut(mesh: &Mesh, random: &mut Random) -> Script {
     let mut caller = Caller::new(mesh, Origin::OwnPlan, random);
     for link in 0..mesh.count {
         caller.make_all(&[Call::Cut(link), Call::Run(u32::MAX)]);
-        ask(&mut caller, 1);
+        let asked = caller.inner_link();
+        caller.both_statuses(asked);
         caller.make(Call::Mend(link));
     }
     caller.script()
@@ -99,9 +102,10 @@ fn delivered(mesh: &Mesh, random: &mut Random) -> Script {
     let mut caller = Caller::new(mesh, Origin::OwnPlan, random);
     ask(&mut caller, 1);
     let link = caller.inner_link();
-    caller.make_all(&[Call::Cut(link), Call::Status(link)]);
-    while let Some(under_way) = caller.under_way() {
-        caller.make(Call::Deliver(under_way));
+    caller.make(Call::Cut(link));
+    caller.both_statuses(link);
+    while let Some((under_way, wavelength)) = caller.under_way() {
+        caller.make(Call::Deliver(under_way, wavelength));
         ask(&mut caller, 1);
     }
     end(&mut caller, link);
@@ -125,16 +129,17 @@ fn run(mesh: &Mesh, random: &mut Random) -> Script {
 
 /// Statuses at rest, the route, and a status after the mend.
 fn end(caller: &mut Caller, link: u16) {
-    caller.make(Call::Status(link));
-    ask(caller, 3);
-    caller.make_all(&[Call::Route, Call::Mend(link), Call::Status(link)]);
+    caller.both_statuses(link);
+    ask(caller, 2);
+    caller.both_routes();
+    caller.make_all(&[Call::Mend(link), Call::Status(link, 1)]);
 }
 
-/// Statuses of random links.
+/// Statuses of random links, each on one of the wavelengths.
 fn ask(caller: &mut Caller, times: usize) {
     for _ in 0..times {
-        let link = caller.inner_link();
-        caller.make(Call::Status(link));
+        let call = Call::Status(caller.inner_link(), caller.inner_wavelength());
+        caller.make(call);
     }
 }
 
@@ -158,14 +163,16 @@ mod tests {
         for call in &script.calls {
             match *call {
                 Call::Cut(link) => assert_eq!(session.cut(link), Ok(())),
-                Call::Deliver(link) => assert!(session.deliver(link).is_ok()),
+                Call::Deliver(link, wavelength) => {
+                    assert!(session.deliver(link, wavelength).is_ok());
+                }
                 Call::Mend(link) => assert_eq!(session.mend(link), Ok(())),
                 Call::Run(allowance) => assert!(session.run(allowance).is_ok()),
-                Call::Status(link) if session.cut.is_some() && session.is_at_rest() => {
-                    let route = session.status(link).unwrap().route;
-                    lengths.push((route, session.route().unwrap().len()));
+                Call::Status(link, wavelength) if session.cut.is_some() && session.is_at_rest() => {
+                    let route = session.status(link, wavelength).unwrap().route;
+                    lengths.push((route, session.route(wavelength).unwrap().len()));
                 }
-                Call::Status(_) | Call::Route => (),
+                Call::Status(..) | Call::Route(_) => (),
             }
         }
         lengths

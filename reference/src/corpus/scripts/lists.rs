@@ -22,11 +22,11 @@ enum Size {
 pub fn scripts(random: &mut Random) -> Vec<Script> {
     let mut scripts = Vec::new();
     let parts: [(Part, [usize; 3]); 5] = [
-        (floods, [130, 50, 3]),
-        (runs, [50, 25, 3]),
-        (cycles, [30, 20, 2]),
-        (jumble, [90, 40, 2]),
-        (mixed, [60, 30, 2]),
+        (floods, [90, 28, 2]),
+        (runs, [45, 20, 2]),
+        (cycles, [25, 14, 2]),
+        (jumble, [80, 34, 2]),
+        (mixed, [50, 24, 2]),
     ];
     for (part, [on_small, on_middle, on_largest]) in parts {
         scripts.extend(many(on_small, small, Size::Small, part, random));
@@ -69,10 +69,10 @@ fn floods(caller: &mut Caller, size: Size) {
 
 fn at_rest(caller: &mut Caller) {
     let link = caller.link();
-    caller.make(Call::Status(link));
-    caller.make(Call::Route);
+    caller.both_statuses(link);
+    caller.both_routes();
     let refused = [
-        Call::Deliver(caller.link()),
+        caller.any_delivery(),
         Call::Cut(caller.link()),
         Call::Mend(caller.link()),
         Call::Run(caller.allowance()),
@@ -83,11 +83,11 @@ fn at_rest(caller: &mut Caller) {
 
 fn after_mend(caller: &mut Caller) {
     let calls = [
-        Call::Deliver(caller.link()),
+        caller.any_delivery(),
         Call::Mend(caller.link()),
         Call::Run(caller.allowance()),
-        Call::Route,
-        Call::Status(caller.link()),
+        caller.route(),
+        caller.status(),
     ];
     let first = caller.random.below(4);
     caller.make_all(&calls[first..first + 2]);
@@ -110,8 +110,11 @@ fn runs(caller: &mut Caller, size: Size) {
             caller.make(call);
         }
     }
-    caller.make_all(&[Call::Route, Call::Run(u32::MAX), Call::Status(link)]);
-    caller.make_all(&[Call::Route, Call::Run(0), Call::Run(1)]);
+    caller.both_routes();
+    caller.make(Call::Run(u32::MAX));
+    caller.both_statuses(link);
+    caller.both_routes();
+    caller.make_all(&[Call::Run(0), Call::Run(1)]);
 }
 
 /// Cut, run and mend, link after link.
@@ -123,7 +126,8 @@ fn cycles(caller: &mut Caller, size: Size) {
     };
     for _ in 0..times {
         let link = caller.inner_link();
-        caller.make_all(&[Call::Cut(link), Call::Run(u32::MAX), Call::Route]);
+        caller.make_all(&[Call::Cut(link), Call::Run(u32::MAX)]);
+        caller.both_routes();
         if caller.random.below(3) == 0 {
             let call = caller.hindrance();
             caller.make(call);
@@ -131,7 +135,8 @@ fn cycles(caller: &mut Caller, size: Size) {
         caller.make(Call::Mend(link));
     }
     let link = caller.inner_link();
-    caller.make_all(&[Call::Cut(link), Call::Run(u32::MAX), Call::Status(link)]);
+    caller.make_all(&[Call::Cut(link), Call::Run(u32::MAX)]);
+    caller.both_statuses(link);
 }
 
 /// Calls of all kinds in random order.

@@ -39,7 +39,7 @@ fn any_call(caller: &mut Caller) -> Call {
         30..=59 => Call::Cut(caller.link()),
         60..=89 => caller.mending(),
         90..=119 => caller.question(),
-        120..=139 => Call::Deliver(caller.link()),
+        120..=139 => caller.any_delivery(),
         _ => caller.delivery(),
     }
 }
@@ -56,10 +56,10 @@ mod tests {
             for call in &script.calls {
                 match *call {
                     Call::Cut(link) => _ = session.cut(link),
-                    Call::Deliver(link) => _ = session.deliver(link),
+                    Call::Deliver(link, wavelength) => _ = session.deliver(link, wavelength),
                     Call::Mend(link) => mended += usize::from(session.mend(link).is_ok()),
                     Call::Run(allowance) => _ = session.run(allowance),
-                    Call::Status(_) | Call::Route => (),
+                    Call::Status(..) | Call::Route(_) => (),
                 }
             }
             assert!(mended >= 4, "{mended}");

@@ -6,7 +6,7 @@ use crate::mesh::Mesh;
 use crate::plan::{plan, Plan};
 use crate::random::Random;
 use crate::script::{Call, Script};
-use crate::session::{start, Session};
+use crate::session::{start, Flood, Session, Wavelength};
 
 /// The states to choose from, those named more than once more often.
 const STATES: [&[u8]; 6] = [
@@ -22,7 +22,7 @@ pub fn scripts(random: &mut Random) -> Vec<Script> {
     let mut scripts = Vec::new();
     for turn in 0..260 {
         let mesh = if turn % 3 == 0 { any } else { small }(random);
-        let session = session(&mesh, STATES[turn % STATES.len()], random);
+        let session = session(&mesh, states_of(turn), random);
         let called = match turn % 4 {
             0 => before_a_cut(session, &mesh, random),
             1 => delivered(session, &mesh, random),
@@ -30,16 +30,22 @@ pub fn scripts(random: &mut Random) -> Vec<Script> {
         };
         scripts.push(called);
     }
-    for states in STATES {
+    for turn in 0..STATES.len() {
         let mesh = largest(random);
-        let session = session(&mesh, states, random);
+        let session = session(&mesh, states_of(turn), random);
         scripts.push(under_a_cut(session, &mesh, random));
     }
     scripts
 }
 
-/// Random states and reached nodes, on the mesh's plan or a random one.
-fn session(mesh: &Mesh, states: &[u8], random: &mut Random) -> Session {
+/// The states to choose from on each wavelength: every pair by turns.
+fn states_of(turn: usize) -> [&'static [u8]; 2] {
+    let choices = STATES.len();
+    [STATES[turn % choices], STATES[turn / choices % choices]]
+}
+
+/// Random floods, on the mesh's plan or a random one.
+fn session(mesh: &Mesh, states: [&[u8]; 2], random: &mut Random) -> Session {
     let count = mesh.counted().len();
     let mut plan = plan(mesh).0;
     if random.below(3) == 0 {
@@ -47,26 +53,37 @@ fn session(mesh: &Mesh, states: &[u8], random: &mut Random) -> Session {
         plan.directions[..count].fill_with(|| random.below(2) as u8);
     }
     let (mut session, _) = start(mesh, &plan);
-    session.states[..count].fill_with(|| random.pick(states));
-    let share = random.below(5);
-    let nodes = usize::from(mesh.nodes);
-    session.reached[..nodes].fill_with(|| random.below(4) < share);
+    for (wavelength, states) in Wavelength::BOTH.into_iter().zip(states) {
+        session.floods[wavelength] = flood(mesh, states, random);
+    }
     session
+}
+
+/// Random states and reached nodes.
+fn flood(mesh: &Mesh, states: &[u8], random: &mut Random) -> Flood {
+    let mut flood = Flood::FRESH;
+    let links = &mut flood.states[..mesh.counted().len()];
+    links.fill_with(|| random.pick(states));
+    let share = random.below(5);
+    let nodes = &mut flood.reached[..mesh.nodes.into()];
+    nodes.fill_with(|| random.below(4) < share);
+    flood
 }
 
 /// Links at x that are not quiet are offered all the same by a cut.
 fn before_a_cut(session: Session, mesh: &Mesh, random: &mut Random) -> Script {
     let mut caller = Caller::on(&session, mesh, random);
     let calls = [
-        Call::Status(caller.inner_link()),
-        Call::Deliver(caller.under_way().unwrap_or(0)),
+        caller.status(),
+        caller.delivery(),
         Call::Run(caller.allowance()),
-        Call::Route,
+        caller.route(),
     ];
     let first = caller.random.below(3);
     caller.make_all(&calls[first..first + 2]);
     let link = caller.inner_link();
-    caller.make_all(&[Call::Cut(link), Call::Status(link)]);
+    caller.make(Call::Cut(link));
+    caller.both_statuses(link);
     play(&mut caller);
     caller.script()
 }
@@ -76,7 +93,8 @@ fn under_a_cut(mut session: Session, mesh: &Mesh, random: &mut Random) -> Script
     stand_cut(&mut session, random);
     let mut caller = Caller::on(&session, mesh, random);
     let link = caller.inner_link();
-    caller.make_all(&[Call::Route, Call::Status(link)]);
+    caller.both_routes();
+    caller.both_statuses(link);
     play(&mut caller);
     caller.script()
 }
@@ -87,7 +105,8 @@ fn delivered(mut session: Session, mesh: &Mesh, random: &mut Random) -> Script {
     let mut caller = Caller::on(&session, mesh, random);
     caller.flood(40);
     let link = caller.inner_link();
-    caller.make_all(&[Call::Status(link), Call::Route]);
+    caller.both_statuses(link);
+    caller.both_routes();
     let call = caller.mending();
     caller.make(call);
     caller.script()
@@ -104,7 +123,8 @@ fn play(caller: &mut Caller) {
     let times = caller.random.between(6, 12);
     caller.jumble(times);
     if caller.random.below(2) == 0 {
-        caller.make_all(&[Call::Run(u32::MAX), Call::Route]);
+        caller.make(Call::Run(u32::MAX));
+        caller.both_routes();
     }
 }
 

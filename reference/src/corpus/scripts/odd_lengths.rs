@@ -7,11 +7,12 @@ use super::super::meshes::{
 use super::super::shapes;
 use super::caller::Caller;
 use super::grounds::{dense, p5, small, triangle};
-use crate::mesh::{Mesh, MOST_LINKS};
+use crate::mesh::Mesh;
 use crate::plan::plan;
 use crate::random::Random;
 use crate::script::{Call, Script};
-use crate::session::{start, Session, OFFERED, QUIET, REFUSED, RELEASED, TAKEN};
+use crate::session::{start, Flood, Floods, Session};
+use crate::session::{OFFERED, QUIET, REFUSED, RELEASED, TAKEN};
 
 const LONGEST: u16 = 65_535;
 
@@ -23,8 +24,33 @@ pub fn scripts(random: &mut Random) -> Vec<Script> {
     sessions.extend(all_taken(random));
     sessions.extend(one_place_of_256());
     sessions.extend(random_states(random));
-    let called = |session: &Session| called(session, random);
-    sessions.iter().map(called).collect()
+    let called = |(turn, session)| {
+        let session = with_other(session, turn, random);
+        called(&session, random)
+    };
+    sessions.into_iter().enumerate().map(called).collect()
+}
+
+/// By turns the states are those of wavelength 1 or of 2, and the other
+/// wavelength is fresh, at rest with taken links, or has links under way.
+fn with_other(session: Session, turn: usize, random: &mut Random) -> Session {
+    let states: &[u8] = match turn / 2 % 4 {
+        0 => &[QUIET],
+        3 => &[QUIET, TAKEN, OFFERED, REFUSED],
+        _ => &[QUIET, TAKEN, RELEASED],
+    };
+    let (first, second) = (
+        session.floods.first,
+        flood(&session.mesh, |_| random.pick(states)),
+    );
+    let floods = match turn % 2 {
+        0 => Floods { first, second },
+        _ => Floods {
+            first: second,
+            second: first,
+        },
+    };
+    Session { floods, ..session }
 }
 
 /// One link in every state, with a cut and without one.
@@ -158,30 +184,37 @@ fn random_states(random: &mut Random) -> Vec<Session> {
     sessions
 }
 
-/// The session on the mesh's plan with this cut and these states.
-fn session(mesh: &Mesh, cut: Option<u16>, mut state: impl FnMut(usize) -> u8) -> Session {
-    let mut states = [QUIET; MOST_LINKS];
-    for (link, stored) in states[..mesh.counted().len()].iter_mut().enumerate() {
+/// The session on the mesh's plan with this cut and these states of
+/// wavelength 1.
+fn session(mesh: &Mesh, cut: Option<u16>, state: impl FnMut(usize) -> u8) -> Session {
+    let mut session = start(mesh, &plan(mesh).0).0;
+    session.cut = cut;
+    session.floods.first = flood(mesh, state);
+    session
+}
+
+fn flood(mesh: &Mesh, mut state: impl FnMut(usize) -> u8) -> Flood {
+    let mut flood = Flood::FRESH;
+    let links = &mut flood.states[..mesh.counted().len()];
+    for (link, stored) in links.iter_mut().enumerate() {
         *stored = state(link);
     }
-    Session {
-        cut,
-        states,
-        ..start(mesh, &plan(mesh).0).0
-    }
+    flood
 }
 
 /// Statuses as the session is, after one delivery, at rest and after a mend.
 fn called(session: &Session, random: &mut Random) -> Script {
     let mut caller = Caller::on(session, &session.mesh, random);
     let [first, second] = [caller.inner_link(), caller.inner_link()];
-    caller.make_all(&[Call::Status(first), Call::Status(second)]);
+    caller.both_statuses(first);
     if !session.is_at_rest() {
-        caller.make_all(&[Call::Run(1), Call::Status(first)]);
-        caller.make_all(&[Call::Run(u32::MAX), Call::Status(second)]);
+        caller.make(Call::Run(1));
+        caller.both_statuses(first);
+        caller.make(Call::Run(u32::MAX));
+        caller.both_statuses(second);
     }
     let cut = session.cut.unwrap_or(first);
-    caller.make_all(&[Call::Mend(cut), Call::Status(first)]);
+    caller.make_all(&[Call::Mend(cut), Call::Status(first, 1)]);
     caller.script()
 }
 
@@ -192,7 +225,7 @@ mod tests {
 
     /// What the first status of each script says of the route's length.
     fn lengths(sessions: &[Session]) -> Vec<RouteLength> {
-        let of = |session: &Session| session.status(0).unwrap().route;
+        let of = |session: &Session| session.status(0, 1).unwrap().route;
         sessions.iter().map(of).collect()
     }
 

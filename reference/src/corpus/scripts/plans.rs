@@ -80,7 +80,8 @@ fn played(mesh: &Mesh, directions: Vec<u8>, random: &mut Random) -> Script {
     caller.make(Call::Cut(link));
     caller.flood(30);
     caller.jumble(6);
-    caller.make_all(&[Call::Run(u32::MAX), Call::Route]);
+    caller.make(Call::Run(u32::MAX));
+    caller.both_routes();
     caller.script()
 }
 
