@@ -40,6 +40,7 @@ fn run_on(job: u8, repeats: u32, m: Mesh) {
         b'E' => encode_job(m, repeats),
         b'P' => plan_job(m, repeats),
         b'R' => sessions::run_job(m, repeats),
+        b'S' => sessions::run_of_first_job(m, repeats),
         b'C' => sessions::cut_job(m, repeats),
         b'L' => sessions::deliver_job(m, repeats),
         b'U' => sessions::status_job(m, repeats),

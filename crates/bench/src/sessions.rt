@@ -1,4 +1,7 @@
-// Jobs on a session: a cut of the last link, and the others on a session in which it was just cut.
+// Jobs on a session: a cut of the last link, and the others on a session in which it was just cut. A delivery and a status are wavelength 1's.
+use crate::floods::FIRST;
+use crate::floods::lowest_of_first;
+use crate::floods::second_at_rest;
 use crate::job::print_answer;
 use crate::job::with_length;
 use libc::STDOUT_FILENO;
@@ -93,6 +96,20 @@ pub(crate) fn run_job(m: Mesh, repeats: u32) {
     io::print_decimal(STDOUT_FILENO, made_by(r) as u64);
 }
 
+// A run with wavelength 2 at rest from the beginning.
+pub(crate) fn run_of_first_job(m: Mesh, repeats: u32) {
+    io::write_all(STDOUT_FILENO, b"S ");
+    let c = just_cut(m);
+    let a = c.answer;
+    let Answer::Accepted = a else {
+        print_answer(a);
+        return;
+    };
+    let s = c.session;
+    let r = run_often(second_at_rest(s), second_at_rest(other(m)), repeats);
+    io::print_decimal(STDOUT_FILENO, made_by(r) as u64);
+}
+
 fn run_often(even: Session, odd: Session, repeats: u32) -> Run {
     let mut r = even.run(UNHINDERED);
     let mut i: u32 = 1;
@@ -109,7 +126,7 @@ fn run_often(even: Session, odd: Session, repeats: u32) -> Run {
 
 // Whether a session accepts a status. Makes use of the session, so that no compiler can take it out.
 fn is_accepted(s: Session) -> bool {
-    let t = s.status(0);
+    let t = s.status(0, FIRST);
     match t {
         Status::Link {
             state: _,
@@ -139,20 +156,6 @@ fn made_by(r: Run) -> u32 {
     }
 }
 
-// The lowest link under way.
-fn lowest_under_way(s: Session) -> u16 {
-    let flood = s.flood;
-    let states = flood.states;
-    let mut i: u16 = 0;
-    while i < 256 {
-        if states[i as usize] == 1 {
-            return i;
-        }
-        i += 1;
-    }
-    0
-}
-
 pub(crate) fn deliver_job(m: Mesh, repeats: u32) {
     io::write_all(STDOUT_FILENO, b"L ");
     let c = just_cut(m);
@@ -162,7 +165,7 @@ pub(crate) fn deliver_job(m: Mesh, repeats: u32) {
         return;
     };
     let s = c.session;
-    let d = deliver_often(s, other(m), lowest_under_way(s), repeats);
+    let d = deliver_often(s, other(m), lowest_of_first(s), repeats);
     let after = d.session;
     let answer = d.answer;
     if is_accepted(after) {
@@ -171,13 +174,13 @@ pub(crate) fn deliver_job(m: Mesh, repeats: u32) {
 }
 
 fn deliver_often(even: Session, odd: Session, link: u16, repeats: u32) -> Delivery {
-    let mut d = even.deliver(link);
+    let mut d = even.deliver(link, FIRST);
     let mut i: u32 = 1;
     while i < repeats {
         if i % 2 == 0 {
-            d = even.deliver(link);
+            d = even.deliver(link, FIRST);
         } else {
-            d = odd.deliver(link);
+            d = odd.deliver(link, FIRST);
         }
         i += 1;
     }
@@ -232,13 +235,13 @@ pub(crate) fn rest_job(m: Mesh, repeats: u32) {
 }
 
 fn status_often(even: Session, odd: Session, link: u16, repeats: u32) -> Status {
-    let mut t = even.status(link);
+    let mut t = even.status(link, FIRST);
     let mut i: u32 = 1;
     while i < repeats {
         if i % 2 == 0 {
-            t = even.status(link);
+            t = even.status(link, FIRST);
         } else {
-            t = odd.status(link);
+            t = odd.status(link, FIRST);
         }
         i += 1;
     }

@@ -1,4 +1,4 @@
-// The lines of a listing: the mesh, each link with its direction, and what each cut leads to (01, the program meshplan).
+// The lines of a listing: the mesh, each link with its direction, and what each cut leads to on wavelength 1 (01, the program meshplan).
 use clients::session::recover;
 use flood::Route;
 use metres::Length;
@@ -87,15 +87,16 @@ fn put_cuts(out: &mut [u8], at: usize, fresh: Session, count: u16) -> usize {
     next
 }
 
-// What a cut of link k leads to on a fresh session.
+// What a cut of link k leads to on a fresh session: on wavelength 1 its own deliveries, its length and its route.
 fn put_cut(out: &mut [u8], at: usize, fresh: Session, k: u16) -> usize {
     let recovered = recover(fresh, k);
     let report = recovered.report;
-    let Report::Made { count, rest: _ } = report else {
+    let Report::Made { count: _, rest: _ } = report else {
         return at;
     };
     let a = put_arc(out, at, k, planned(fresh, k));
-    let b = put_number(out, a, count as u64);
+    let deliveries = recovered.deliveries;
+    let b = put_number(out, a, deliveries as u64);
     let status = recovered.status;
     let c = put_length(out, b, status);
     let routed = recovered.routed;

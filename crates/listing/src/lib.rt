@@ -8,8 +8,9 @@ use streams::held::put_pair;
 use streams::held::write;
 
 // Prints the listing of a book to standard output. A first line holds N and L. Each link line holds number, ends and
-// direction. Each cut line holds link, x, y, deliveries of an unhindered run, the route length in metres or a hyphen where it is not known, and the
-// route's links from x on. A refusal of reading or planning is the only line: `refused`, number and place. Answers that refusal, or accepted.
+// direction. Each cut line holds, of wavelength 1 alone, link, x, y, its own deliveries in an unhindered run, the length of its route in metres or a
+// hyphen where it is not known, and the route's links from x on. A refusal of reading or planning is the only line: `refused`, number and place.
+// Answers that refusal, or accepted.
 pub fn print_book(book: &[u8]) -> Answer
     ensures { λ r. ⌜ r ≡ listAnswer (now (book .entry)) ⌝ }
 {

@@ -18,18 +18,25 @@ pub fn read_plan() -> Plan {
 pub fn read_session(m: Mesh) -> Session {
     let plan = read_plan();
     let cut = read_cut();
-    let mut states = [0u8; 256];
-    read_states(&mut states, next_two());
-    let mut reached = [false; 64];
-    read_reached(&mut reached, next_byte());
-    let flood = Flood { states, reached };
+    let first = read_flood();
+    let second = read_flood();
     let mesh = read_mesh(m);
     Session {
         mesh,
         plan,
         cut,
-        flood,
+        first,
+        second,
     }
+}
+
+// The states and the reached nodes of one wavelength.
+fn read_flood() -> Flood {
+    let mut states = [0u8; 256];
+    read_states(&mut states, next_two());
+    let mut reached = [false; 64];
+    read_reached(&mut reached, next_byte());
+    Flood { states, reached }
 }
 
 // Stores v at index i where there is one.

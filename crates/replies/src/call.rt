@@ -20,13 +20,19 @@ pub fn show_call(letter: u8, n: u32, lent: bool, reply: Reply) {
     let link = (n % 65536) as u64;
     match letter {
         b'C' => field(b"cut", link),
-        b'D' => field(b"deliver", link),
+        b'D' => named(b"deliver", n),
         b'M' => field(b"mend", link),
         b'R' => field(b"run", n as u64),
-        _ => field(b"status", link),
+        _ => named(b"status", n),
     }
     show_reply(reply);
     end();
+}
+
+// A word, then the link and the wavelength that a number says: link × 256 + wavelength.
+fn named(text: &[u8], n: u32) {
+    field(text, (n / 256 % 65536) as u64);
+    number((n % 256) as u64);
 }
 
 fn show_reply(r: Reply) {

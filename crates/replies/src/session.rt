@@ -1,5 +1,6 @@
 // The lines of a session at the end of a script, and of a route query.
 use crate::form;
+use flood::Flood;
 use flood::Route;
 use formed::Cut;
 use mesh::Answer;
@@ -11,17 +12,25 @@ use streams::print::field;
 use streams::print::number;
 use streams::print::word;
 
-// The cut, the states of the first `links` links, and the reached nodes.
+// The cut, and of each wavelength the states of the first `links` links and the reached nodes.
 pub fn show_session(s: Session, lent: bool, links: u16) {
     form(lent);
     let cut = s.cut;
     show_cut(cut);
-    let flood = s.flood;
+    let first = s.first;
+    show_flood(first, 1, lent, links);
+    let second = s.second;
+    show_flood(second, 2, lent, links);
+}
+
+fn show_flood(flood: Flood, wavelength: u64, lent: bool, links: u16) {
     let states = flood.states;
     form(lent);
+    field(b"states", wavelength);
     show_states(&states, links as usize);
     let reached = flood.reached;
     form(lent);
+    field(b"reached", wavelength);
     show_reached(&reached);
 }
 
@@ -42,7 +51,7 @@ fn state(v: u8) {
 }
 
 fn show_states(states: &[u8; 256], links: usize) {
-    word(b"states ");
+    word(b" ");
     let mut i: usize = 0;
     while i < 256 {
         if i < links {
@@ -54,7 +63,6 @@ fn show_states(states: &[u8; 256], links: usize) {
 }
 
 fn show_reached(reached: &[bool; 64]) {
-    word(b"reached");
     let mut v: usize = 0;
     while v < 64 {
         if reached[v] {
@@ -65,10 +73,10 @@ fn show_reached(reached: &[bool; 64]) {
     end();
 }
 
-// The line of a route query: its answer, then the links of an accepted one.
-pub fn show_route(lent: bool, a: Answer, route: Route) {
+// The line of a route query: its wavelength and its answer, then the links of an accepted one.
+pub fn show_route(lent: bool, wavelength: u8, a: Answer, route: Route) {
     form(lent);
-    word(b"route");
+    field(b"route", wavelength as u64);
     answer(a);
     let links = route.links;
     show_links(&links, route.length as usize);

@@ -1,6 +1,7 @@
 // The calls that are read and not made yet: for each its letter, the letter of its form in place, and its number.
 use crate::MOST_CALLS;
 use crate::QUERY;
+use streams::input::next_byte;
 use streams::input::next_four;
 use streams::input::next_two;
 
@@ -40,13 +41,21 @@ fn lent_letter(letter: u8) -> u8 {
     }
 }
 
-// The link or the allowance of a call.
+// The number of a call: its link, its link × 256 + its wavelength, or its allowance.
 fn next_number(letter: u8) -> u32 {
-    if letter == b'R' {
-        next_four()
-    } else {
-        next_two() as u32
+    match letter {
+        b'C' => next_two() as u32,
+        b'M' => next_two() as u32,
+        b'R' => next_four(),
+        _ => next_named(),
     }
+}
+
+// A wavelength, then a link, as one number.
+fn next_named() -> u32 {
+    let wavelength = next_byte();
+    let link = next_two();
+    wavelength as u32 + 256 * (link as u32)
 }
 
 // Whether a list ends: at a route query, or where no more calls can be held.

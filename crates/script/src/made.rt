@@ -9,6 +9,7 @@ use recovery::Session;
 use replies::call::Reply;
 use replies::call::show_call;
 use replies::session::show_route;
+use streams::input::next_byte;
 
 // Makes the calls that are held: the first so many.
 pub(crate) fn make_held(
@@ -80,21 +81,22 @@ fn number_at(answers: &[u64], i: usize, j: usize) -> u64 {
     if at < answers.len() { answers[at] } else { 0 }
 }
 
-// A route query on the copies that are shown, where the letter says one.
+// A route query on the copies that are shown, where the letter says one: its wavelength comes next.
 pub(crate) fn show_routes(copies: Copies, letter: u8) {
     if letter == QUERY {
+        let wavelength = next_byte();
         let by_value = copies.by_value;
-        show_query(by_value, false);
+        show_query(by_value, wavelength, false);
         if copies.both {
             let in_place = copies.in_place;
-            show_query(in_place, true);
+            show_query(in_place, wavelength, true);
         }
     }
 }
 
-fn show_query(s: Session, lent: bool) {
-    let r = route(s);
+fn show_query(s: Session, wavelength: u8, lent: bool) {
+    let r = route(s, wavelength);
     let a = r.answer;
     let route = r.route;
-    show_route(lent, a, route);
+    show_route(lent, wavelength, a, route);
 }

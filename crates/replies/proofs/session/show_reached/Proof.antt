@@ -10,12 +10,6 @@ Inv-loop reached v₀ v = v ≤ 64
 abbrev μ-loop : tie.MeasureT-loop
 μ-loop reached v₀ v = 64 - v
 
-slice-aggregate-word : tie.Need-slice-aggregate-word Inv-loop μ-loop
-slice-aggregate-word c = search needs
-
-word-requires : tie.Need-word-requires Inv-loop μ-loop
-word-requires c κs = search needs
-
 loop-holds : tie.Need-loop-holds Inv-loop μ-loop
 loop-holds c = search needs
 
@@ -46,8 +40,6 @@ show-reached-spec =
     (tie.spec
     Inv-loop
     μ-loop
-    slice-aggregate-word
-    word-requires
     loop-holds
     element-copy-out-if1
     number-requires

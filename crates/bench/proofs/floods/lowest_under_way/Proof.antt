@@ -1,8 +1,8 @@
--- `bench::sessions::lowest_under_way` is safe and ends.
+-- `bench::floods::lowest_under_way` is safe and ends.
 use borrow.Author.Needs.{needs}
 use Prim.Native.Nat.{_-_, _≤_}
-use Rattle.bench.proofs.sessions.lowest_under_way.Statement.{statement}
-use Rattle.bench.proofs.sessions.lowest_under_way.Tie as tie
+use Rattle.bench.proofs.floods.lowest_under_way.Statement.{statement}
+use Rattle.bench.proofs.floods.lowest_under_way.Tie as tie
 
 abbrev Inv-loop : tie.InvT-loop
 Inv-loop states i₀ i = i ≤ 256
@@ -13,11 +13,14 @@ abbrev μ-loop : tie.MeasureT-loop
 loop-holds : tie.Need-loop-holds Inv-loop μ-loop
 loop-holds c = search needs
 
-cast-if1 : tie.Need-cast-if1 Inv-loop μ-loop
-cast-if1 c = search needs
+cast-is-under-way : tie.Need-cast-is-under-way Inv-loop μ-loop
+cast-is-under-way c = search needs
 
-array-read-if1 : tie.Need-array-read-if1 Inv-loop μ-loop
-array-read-if1 c = search needs
+element-copy-out-is-under-way : tie.Need-element-copy-out-is-under-way Inv-loop μ-loop
+element-copy-out-is-under-way c = search needs
+
+is-under-way-requires : tie.Need-is-under-way-requires Inv-loop μ-loop
+is-under-way-requires c κs = search needs
 
 returns : tie.Need-returns Inv-loop μ-loop
 returns c = search needs
@@ -41,8 +44,9 @@ lowest-under-way-spec =
     Inv-loop
     μ-loop
     loop-holds
-    cast-if1
-    array-read-if1
+    cast-is-under-way
+    element-copy-out-is-under-way
+    is-under-way-requires
     returns
     add-i
     loop-less
