@@ -1,7 +1,7 @@
 // The loops over the entries of a record. No branch between the entries of a block, so that the compiler can test several at once.
 use ends::lower;
 ghost use mathlib.Core.Path.{_≡_};
-ghost use mathlib.Core.Bool.{not};
+ghost use mathlib.Core.Bool.{not, _||_};
 ghost use Prim.Native.Nat.{ℕ, _+_, _≤_, max};
 ghost use lib.Dec.{eqb, ltb};
 ghost use Rattle.scan.specs.Entry.{at};
@@ -106,14 +106,14 @@ pub fn has_bad_entry(kind: Kind, links: u16, entries: &[u8; 256]) -> bool
     is_above(kind, largest(entries)) | has_leftover(links, entries)
 }
 
-// Whether a node not below N is reached.
-pub fn has_stray(nodes: u8, reached: &[bool; 64]) -> bool
-    ensures { λ r. ⌜ r ≡ strays nodes (now (reached .entry)) ⌝ }
+// Whether a node not below N is reached, on one of two wavelengths: one loop tests both.
+pub fn has_stray<'a>(nodes: u8, first: &'a [bool; 64], second: &'a [bool; 64]) -> bool
+    ensures { λ r. ⌜ r ≡ (strays nodes (now (first .entry)) || strays nodes (now (second .entry))) ⌝ }
 {
     let mut bad = false;
     let mut v = nodes as usize;
     while v < 64 {
-        bad = bad | reached[v];
+        bad = bad | (first[v] | second[v]);
         v += 1;
     }
     bad

@@ -2,7 +2,7 @@
 ghost use mathlib.Core.Path.{_≡_};
 ghost use Rattle.mesh.specs.Parts.{partsAnswer};
 ghost use Rattle.formed.specs.Formed.{cutLink, misplaced};
-ghost use Rattle.formed.specs.Pieces.{badFlood, illFormed, recordAfter};
+ghost use Rattle.formed.specs.Pieces.{illFormed, recordAfter};
 ghost use Rattle.flood.specs.Lent.{flood};
 ghost use Rattle.wavelengths.specs.Wavelength.{pair};
 use faults::Kind;
@@ -36,13 +36,6 @@ fn is_misplaced(links: u16, cut: Cut) -> bool
     }
 }
 
-// Whether the flood on a wavelength is ill formed, with so many nodes and links.
-fn is_bad_flood<'a>(nodes: u8, count: u16, states: &'a [u8; 256], reached: &'a [bool; 64]) -> bool
-    ensures { λ r. ⌜ r ≡ badFlood nodes count (flood (now (states .entry)) (now (reached .entry))) ⌝ }
-{
-    has_bad_entry(Kind::State, count, states) | has_stray(nodes, reached)
-}
-
 // Whether the plan, the cut or a flood is ill formed, with so many nodes and links.
 fn is_ill_formed<'a>(
     nodes: u8,
@@ -59,8 +52,9 @@ fn is_ill_formed<'a>(
 {
     has_bad_entry(Kind::Direction, count, directions)
         | is_misplaced(count, cut)
-        | is_bad_flood(nodes, count, states1, reached1)
-        | is_bad_flood(nodes, count, states2, reached2)
+        | has_bad_entry(Kind::State, count, states1)
+        | has_bad_entry(Kind::State, count, states2)
+        | has_stray(nodes, reached1, reached2)
 }
 
 // The record of a session with these pieces: N, L, whether the mesh's entries past the last link are zero, the ends of its links, and the rest, the states

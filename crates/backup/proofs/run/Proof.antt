@@ -4,8 +4,9 @@ use borrow.Author.Needs.{needs}
 use Rattle.mesh.specs.declared.Plan.{Plan}
 use Rattle.flood.specs.Digraph.{cut}
 use Rattle.wavelengths.specs.declared.Wavelength.the-variants.{First, Second}
+use Rattle.wavelengths.specs.Laws.Wavelength.{each-known}
 use Rattle.topology.specs.Backup.{backupOn}
-use Rattle.backup.specs.Laws.Arcs.{laid-other, arcs, lost, each-known, ended-on}
+use Rattle.backup.specs.Laws.Arcs.{laid-other, arcs, lost, ended-on}
 use Rattle.backup.proofs.run.Statement.{statement}
 use Rattle.backup.proofs.run.Tie as tie
 

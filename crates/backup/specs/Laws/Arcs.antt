@@ -14,9 +14,7 @@ use Rattle.flood.specs.Lent.{graph, failure}
 use Rattle.wavelengths.specs.declared.Floods.{Floods}
 use Rattle.wavelengths.specs.declared.Wavelength.{Wavelength}
 use Rattle.wavelengths.specs.declared.Wavelength.the-variants.{First, Second}
-use Rattle.wavelengths.specs.Wavelength.{each}
 use Rattle.wavelengths.specs.Merge.{atRest, run}
-use Rattle.wavelengths.specs.Laws.Wavelength.{each-is}
 use Rattle.flooding.specs.Ended.{Ended}
 use Rattle.topology.specs.Backup.{backupOn, underCut}
 use Rattle.topology.specs.Arrays.{tailsInto, headsInto}
@@ -25,7 +23,7 @@ use Rattle.topology.specs.Laws.Backup.{cut-digraph, cut-failure}
 use Rattle.pieces.specs.Given.{Given}
 
 -- what `lay` stores for a wavelength, from arrays of zeros
-abbrev pub Laid : Wavelength → ℕ → List ℕ → List ℕ → List ℕ → List ℕ → Type 0
+abbrev Laid : Wavelength → ℕ → List ℕ → List ℕ → List ℕ → List ℕ → Type 0
 Laid w count ends directions tails heads =
     (tails ≡ tailsInto w count ends directions (replicate 256 0)) × (heads ≡ headsInto w count ends directions (replicate 256 0))
 
@@ -40,7 +38,7 @@ pub laid-sized : (w : Wavelength) (count : ℕ) (ends directions tails heads : L
 laid-sized w count ends directions tails heads (t, h) = (sym (ap length t ∙ simp length-sweep), sym (ap length h ∙ simp length-sweep))
 
 -- what `lose` gives for a cut of link k, where `starts` held the tails
-abbrev pub Lost : ℕ → List ℕ → List ℕ → List ℕ → ℕ → ℕ → Type 0
+abbrev Lost : ℕ → List ℕ → List ℕ → List ℕ → ℕ → ℕ → Type 0
 Lost k tails heads starts x y = (starts ≡ set tails k 255) × ((x ≡ at heads k) × (y ≡ at tails k))
 
 module _ (w : Wavelength) (m : Mesh) (p : Plan) (count : ℕ) (ends : List ℕ) (k : ℕ) (given : Given m count ends k)
@@ -70,10 +68,6 @@ module _ (w : Wavelength) (m : Mesh) (p : Plan) (count : ℕ) (ends : List ℕ) 
   unfolding failureOf
   lost starts x y (s, (source, target)) =
       (λ j. failure tails (s j) x y) ∙ ap failureOf (arrays-are x y source target) ∙ cut-failure m p (given .accepted) w k (given .link)
-
--- what is given on each wavelength, where each is known
-pub each-known : {A : Type 0} (f : Wavelength → A) {a b : A} → a ≡ f First → b ≡ f Second → each a b ≡ f
-each-known f p q = (λ j. each (p j) (q j)) ∙ each-is f
 
 -- a run on equal digraphs, under equal failures
 pub ended-on : {g g′ : Wavelength → Digraph} {c c′ : Wavelength → Failure} {n : ℕ} {f got : Floods} {made : ℕ} {rest : Bool} → g ≡ g′ → c ≡ c′

@@ -7,10 +7,10 @@ use Rattle.flood.specs.Lent.{flood}
 use Rattle.wavelengths.specs.declared.Floods.{Floods}
 use Rattle.wavelengths.specs.Wavelength.{pair}
 use Rattle.wavelengths.specs.Merge.{begin}
+use Rattle.wavelengths.specs.Laws.Project.{begin-known}
 use Rattle.refusals.specs.Refusals as refusals
 use Rattle.pieces.specs.Pieces.{chosen, digraph, tested}
 use Rattle.pieces.specs.Laws.Tested.{tested-is, given-cut}
-use Rattle.changes.specs.Laws.Changed.{begun}
 use Rattle.changes.proofs.cut.Statement.{statement}
 use Rattle.changes.proofs.cut.Tie as tie
 
@@ -75,7 +75,7 @@ returns-2 c =
     record {
       answer = answered d;
       floods =
-          begun (digraph (a .mesh) (a .directions .now)) _ (lent s) (b .begin .ensures (a .mesh) given) (c .begin2 .ensures (a .mesh) given)
+          begin-known (digraph (a .mesh) (a .directions .now)) _ (lent s) (b .begin .ensures (a .mesh) given) (c .begin2 .ensures (a .mesh) given)
           ∙ sym (ap (left-by s) t);
     }
 

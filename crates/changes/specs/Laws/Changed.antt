@@ -8,14 +8,11 @@ use Rattle.mesh.specs.declared.Mesh.{Mesh}
 use Rattle.mesh.specs.declared.Answer.{Answer}
 use Rattle.mesh.specs.declared.Answer.the-variants.{Accepted, Refused}
 use Rattle.flood.specs.declared.Flood.{Flood}
-use Rattle.flood.specs.Digraph.{Digraph, Failure}
-use Rattle.flood.specs.Machine as machine
 use Rattle.wavelengths.specs.declared.Floods.{Floods}
 use Rattle.wavelengths.specs.declared.Wavelength.{Wavelength}
-use Rattle.wavelengths.specs.declared.Wavelength.the-variants.{First, Second}
-use Rattle.wavelengths.specs.Wavelength.{wavelengthOf, on, put, pair}
-use Rattle.wavelengths.specs.Merge.{turn, begin, step}
-use Rattle.wavelengths.specs.Laws.Wavelength.{on-put-own}
+use Rattle.wavelengths.specs.Wavelength.{wavelengthOf, on, put}
+use Rattle.wavelengths.specs.Merge.{turn, step}
+use Rattle.wavelengths.specs.Laws.Wavelength.{on-put-own, put-own}
 use Rattle.formed.specs.declared.Cut.{Cut}
 use Rattle.refusals.specs.Refusals.{deliverAnswer}
 use Rattle.refusals.specs.Laws.Tested.{deliver-accepted}
@@ -25,17 +22,6 @@ use Rattle.backup.specs.Stepped.{Stepped}
 use Rattle.changes.specs.declared.Moved.{Moved}
 use Rattle.changes.specs.Changes.{AfterDelivery}
 use Rattle.changes.specs.OneFlood.{OnOneFlood}
-
--- a flood that begins on each wavelength
-pub begun : (g : Wavelength → Digraph) (c : Wavelength → Failure) (f : Floods) {one two : Flood}
-    → one ≡ machine.begin (g First) (c First) (f .first) → two ≡ machine.begin (g Second) (c Second) (f .second) → pair one two ≡ begin g c f
-unfolding begin
-begun g c f p q = λ j. pair (p j) (q j)
-
--- a wavelength's own flood, put there, changes nothing
-put-own : (w : Wavelength) (p : Floods) → put w (on w p) p ≡ p
-put-own First p = refl
-put-own Second p = refl
 
 -- a delivery on the flood of its wavelength, and the other flood left alone
 module _ (m : Mesh) (ends : List ℕ) (zeros : Bool) (split : Split m ends zeros) (directions : List ℕ) (c : Cut) (f : Floods) (k n : ℕ)

@@ -1,9 +1,9 @@
 -- Loops that keep whether some entry failed a test so far, and what they say of the entries of a plan or a session. Serves the proofs of `entries`.
 -- Assumes nothing.
 use Prim.Native.Nat.{ℕ, _+_, _<_, _≤_, max, min}
-use mathlib.Core.Path.{_≡_, refl, sym}
+use mathlib.Core.Path.{_≡_, refl, sym, _∙_}
 use mathlib.Core.Logic.{_⊎_, inl, inr, ⊎-elim}
-use mathlib.Core.Bool.{Bool, true, false, cond, not, _&&_, _||_, or-false, or-true}
+use mathlib.Core.Bool.{Bool, true, false, cond, not, _&&_, _||_, or-false, or-true, and-or-distrib-left}
 use mathlib.Core.List.{List}
 use native.Mathlib.Omega.{arith}
 use native.Mathlib.Decide.{ℕ-discrete, decLt}
@@ -12,9 +12,9 @@ use lib.Dec.{eqb, ltb, leb}
 use borrow.Author.Tests.{eq-eqb, ne-eqb, lt-ltb, le-ltb, lt-leb, le-leb}
 use Rattle.scan.specs.Test.{Says, lt-says, or-says, says-same}
 use Rattle.scan.specs.Bits.{or-zero}
-use Rattle.scan.specs.Entry.{at}
-use Rattle.scan.specs.Lowest.{any, any-says, any-same, any-none, any-turn, any-block}
-use Rattle.faults.specs.Faults.{isOver, overflows, isLeftover}
+use Rattle.scan.specs.Entry.{at, has}
+use Rattle.scan.specs.Lowest.{any, any-says, any-same, any-or, any-none, any-turn, any-block}
+use Rattle.faults.specs.Faults.{isOver, overflows, isStray, strays, isLeftover}
 
 -- ---- a loop from n on and below `limit`, over what is not below n and passes q
 
@@ -88,13 +88,9 @@ module _ (links top : ℕ) (entries : List ℕ) where
   -- so one is exactly where one is above the top or one left over
   pub overflows-parts : (any above 256 || any (isLeftover links entries) 256) ≡ overflows links top entries
   unfolding overflows
-  overflows-parts = says-same (or-says (any-says above 256) (any-says (isLeftover links entries) 256)) (
-    λ t. let (i, l, e) = any-says over 256 .0 t in ⊎-elim (λ p. inl (i, l, p)) (λ p. inr (i, l, p)) (parts i .0 e),
-    λ w. any-says over 256 .1 (⊎-elim (λ (i, l, p). (i, l, parts i .1 (inl p))) (λ (i, l, p). (i, l, parts i .1 (inr p))) w),
-  )
-    where
-      over : ℕ → Bool
-      over i = isOver links top i (at entries i)
+  overflows-parts = sym (any-same _ _ 256 (λ i l. over-parts i) ∙ any-or above (isLeftover links entries) 256)
 
-      parts : (i : ℕ) → Says (over i) ((above i ≡ true) ⊎ (isLeftover links entries i ≡ true))
-      parts i = rw (over-parts i) (or-says (λ e. e, λ e. e) (λ e. e, λ e. e))
+-- a node past the last is reached on either of two floods just where one is on the first, or one on the second
+pub strays-either : (nodes : ℕ) (first second : List Bool) → any (λ v. leb nodes v && (has first v || has second v)) 64 ≡ (strays nodes first || strays nodes second)
+unfolding strays isStray
+strays-either nodes first second = any-same _ _ 64 (λ v l. and-or-distrib-left (leb nodes v) (has first v) (has second v)) ∙ any-or _ _ 64

@@ -1,20 +1,29 @@
--- The order of a run: all its deliveries are accepted, a run goes on from where a shorter one stopped, and runs that come to rest are the
--- same. Assumes nothing.
+-- How many deliveries of a list are accepted, and the order of a run: all its deliveries are accepted, a run goes on from where a shorter one stopped,
+-- and runs that come to rest are the same. Assumes nothing.
 use Prim.Native.Nat.{ℕ, zero, suc, _+_, _-_, _≤_}
 use mathlib.Core.Path.{_≡_, refl, sym, ap, _∙_}
 use mathlib.Core.Logic.{⊎-elim}
 use mathlib.Core.Bool.{true}
-use mathlib.Core.List.{List, _∷_, _++_, append-nil}
+use mathlib.Core.List.{List, [], _∷_, _++_, append-nil}
 use native.Mathlib.Omega.{arith}
 use native.Mathlib.Decide.{decLt}
 use lib.ListN.{length}
-use Rattle.scan.specs.Test.{known}
+use Rattle.scan.specs.Test.{branch, known}
+use Rattle.scan.specs.Total.{bit}
 use Rattle.flood.specs.Digraph.{Digraph, Failure}
-use Rattle.flood.specs.Machine.{Flood, atRest, step, play, accepted, order, run}
+use Rattle.flood.specs.Machine.{Flood, accepts, atRest, step, play, accepted, order, run}
 use Rattle.flood.specs.Laws.Run.{next, next-accepted, order-stop, order-step, run-ends}
 
 module _ (g : Digraph) (c : Failure) where
-  -- every one is accepted
+  -- of any deliveries no more are accepted than there are
+  pub accepted-most : (js : List ℕ) (f : Flood) → accepted g c js f ≤ length js
+  unfolding accepted
+  accepted-most [] f = omega arith
+  accepted-most (j ∷ js) f =
+      let one : bit (accepts g j f) ≤ 1 = branch (λ (v : ℕ). v ≤ 1) (accepts g j f) (λ t. omega arith) (λ t. omega arith) in
+      omega (arith, accepted-most js (step g c j f))
+
+  -- of a run every one is
   pub order-accepted : (n : ℕ) (f : Flood) → accepted g c (order g c n f) f ≡ length (order g c n f)
   unfolding order accepted
   order-accepted zero f = refl

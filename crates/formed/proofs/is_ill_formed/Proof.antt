@@ -10,18 +10,28 @@ has-bad-entry-requires c κs = search needs
 is-misplaced-requires : tie.Need-is-misplaced-requires
 is-misplaced-requires c κs = search needs
 
-is-bad-flood-requires : tie.Need-is-bad-flood-requires
-is-bad-flood-requires c κs = search needs
+has-bad-entry-requires-2 : tie.Need-has-bad-entry-requires-2
+has-bad-entry-requires-2 c κs = search needs
 
-is-bad-flood-requires-2 : tie.Need-is-bad-flood-requires-2
-is-bad-flood-requires-2 c κs = search needs
+has-bad-entry-requires-3 : tie.Need-has-bad-entry-requires-3
+has-bad-entry-requires-3 c κs = search needs
+
+has-stray-requires : tie.Need-has-stray-requires
+has-stray-requires c κs = search needs
 
 returns : tie.Need-returns
 unfolding illFormed
 returns c =
-    let first = c .before in
+    let second = c .before in
+    let first = second .before in
     let placed = first .before in
-    rw (placed .before .has-bad-entry .ensures, placed .is-misplaced .ensures, first .is-bad-flood .ensures, c .is-bad-flood2 .ensures)
+    rw (
+      placed .before .has-bad-entry .ensures,
+      placed .is-misplaced .ensures,
+      first .has-bad-entry2 .ensures,
+      second .has-bad-entry3 .ensures,
+      c .has-stray .ensures,
+    )
 
 pub is-ill-formed-spec : {M : Type 1} → statement M
 is-ill-formed-spec =
@@ -29,6 +39,7 @@ is-ill-formed-spec =
     (tie.spec
     has-bad-entry-requires
     is-misplaced-requires
-    is-bad-flood-requires
-    is-bad-flood-requires-2
+    has-bad-entry-requires-2
+    has-bad-entry-requires-3
+    has-stray-requires
     returns)

@@ -10,8 +10,6 @@ use lib.Dec.{eqb}
 use lib.ListN.{length, length-append}
 use Rattle.scan.specs.Test.{branch, clash}
 use Rattle.scan.specs.Entry.{at}
-use Rattle.scan.specs.Total.{bit}
-use Rattle.flood.specs.declared.Flood.{Flood}
 use Rattle.flood.specs.Digraph.{Digraph, Failure, Sound}
 use Rattle.flood.specs.Digraph as failures
 use Rattle.flood.specs.Machine as machine
@@ -19,6 +17,7 @@ use Rattle.flood.specs.Machine.{Blank}
 use Rattle.flood.specs.Path.{Strong}
 use Rattle.flood.specs.Laws.Begin.{fresh-blank}
 use Rattle.flood.specs.Laws.Progress.{Progress, after-progress}
+use Rattle.flood.specs.Laws.Order.{accepted-most}
 use Rattle.flood.specs.Laws.Cut.{cut-sound}
 use Rattle.wavelengths.specs.declared.Floods.{Floods}
 use Rattle.wavelengths.specs.declared.Wavelength.{Wavelength}
@@ -27,7 +26,7 @@ use Rattle.wavelengths.specs.Wavelength.{wavelengthOf, on}
 use Rattle.wavelengths.specs.Merge as merge
 use Rattle.wavelengths.specs.Merge.{Turn, turn, linksOn, freshOnEach, begin, step, play}
 use Rattle.wavelengths.specs.Laws.Wavelength.{arcs-strong}
-use Rattle.wavelengths.specs.Laws.Project.{links-all, on-begin, play-append, accepted-append, play-on, acceptedOn, accepted-both}
+use Rattle.wavelengths.specs.Laws.Project.{links-all, fresh-on, on-begin, play-append, accepted-append, play-on, acceptedOn, accepted-both}
 use Rattle.wavelengths.specs.Laws.Run.{order-accepted}
 use Rattle.mesh.specs.declared.Mesh.{Mesh}
 use Rattle.mesh.specs.declared.Plan.{Plan}
@@ -56,18 +55,6 @@ acted-accepted a b v = branch IsAccepted (eqb v 2) (λ t. refl) (λ t. branch Is
   where
     IsAccepted : Delivered → Type 0
     IsAccepted d = accepted d ≡ true
-
--- no more of a flood's deliveries are accepted than there are
-pub accepted-most : (g : Digraph) (c : Failure) (js : List ℕ) (f : Flood) → machine.accepted g c js f ≤ length js
-unfolding machine.accepted
-accepted-most g c [] f = omega arith
-accepted-most g c (j ∷ js) f =
-    let one : bit (machine.accepts g j f) ≤ 1 = branch (λ (v : ℕ). v ≤ 1) (machine.accepts g j f) (λ t. omega arith) (λ t. omega arith) in
-    omega (arith, accepted-most g c js (machine.step g c j f))
-
-fresh-on : (w : Wavelength) (l n : ℕ) → on w (freshOnEach l n) ≡ machine.fresh l n
-fresh-on First l n = refl
-fresh-on Second l n = refl
 
 -- the cut of link k stands, with these floods
 abbrev pub cutSession : Mesh → Plan → ℕ → Floods → Session

@@ -14,15 +14,14 @@ use Rattle.mesh.specs.declared.Answer.{Answer}
 use Rattle.mesh.specs.declared.Answer.the-variants.{Accepted}
 use Rattle.mesh.specs.Laws.Answer.{andThen-accepted}
 use Rattle.mesh.specs.Laws.Checked.{Passes, passes}
-use Rattle.flood.specs.declared.Flood.{Flood}
 use Rattle.flood.specs.Digraph.{Digraph, Failure}
 use Rattle.flood.specs.Machine.{underWay, fresh, Roomy}
 use Rattle.wavelengths.specs.declared.Wavelength.{Wavelength}
 use Rattle.wavelengths.specs.declared.Wavelength.the-variants.{First, Second}
 use Rattle.wavelengths.specs.Wavelength.{wavelengthOf, on}
 use Rattle.wavelengths.specs.Merge as merge
-use Rattle.wavelengths.specs.Merge.{Turn, turn, freshOnEach, busy, accepts, step, order}
-use Rattle.wavelengths.specs.Laws.Project.{on-begin}
+use Rattle.wavelengths.specs.Merge.{Turn, turn, busy, accepts, step, order}
+use Rattle.wavelengths.specs.Laws.Project.{fresh-on, on-begin}
 use Rattle.formed.specs.declared.Cut.{Cut}
 use Rattle.formed.specs.declared.Cut.the-variants.{Nothing, Link}
 use Rattle.formed.specs.Formed as formed
@@ -56,17 +55,12 @@ made (run n) s = withFloods s (merge.run (digraph s) (failure s) n (floods s) .f
 made (mend f k) s = freshOn (s .mesh) (s .plan)
 made (status k u) s = s
 
--- what holds of a fresh flood holds on each wavelength of a fresh session
-pub fresh-each : (P : Flood → Type 0) → P (fresh 256 64) → (w : Wavelength) → P (on w (freshOnEach 256 64))
-fresh-each P h First = h
-fresh-each P h Second = h
-
 fresh-shown : shown (fresh 256 64) ≡ quiet
 unfolding fresh
 fresh-shown = λ t. record { state = λ i. replicate-at 256 0 i t; reached = λ v. replicate-at 64 false v t }
 
 pub fresh-seen : (m : Mesh) (p : Plan) → seen (freshOn m p) ≡ start
-fresh-seen m p = λ t. record { cut = Nothing; on = λ w. fresh-each (λ f. shown f ≡ quiet) fresh-shown w t }
+fresh-seen m p = λ t. record { cut = Nothing; on = λ w. (ap shown (fresh-on w 256 64) ∙ fresh-shown) t }
 
 -- ---- the tests
 

@@ -4,7 +4,7 @@ use Prim.Native.Nat.{ℕ}
 use mathlib.Core.Path.{_≡_, refl, sym, _∙_, ap, subst}
 use mathlib.Core.Bool.{false}
 use mathlib.Core.List.{[], _∷_}
-use lib.ListN.{length, length-replicate}
+use lib.ListN.{length-replicate}
 use Rattle.mesh.specs.declared.Mesh.{Mesh}
 use Rattle.mesh.specs.declared.Plan.{Plan}
 use Rattle.mesh.specs.declared.Answer.{Answer}
@@ -18,7 +18,7 @@ use Rattle.wavelengths.specs.declared.Wavelength.{Wavelength}
 use Rattle.wavelengths.specs.Wavelength.{wavelengthOf, on}
 use Rattle.wavelengths.specs.Merge as merge
 use Rattle.wavelengths.specs.Merge.{turn, order, play}
-use Rattle.wavelengths.specs.Laws.Project.{on-begin}
+use Rattle.wavelengths.specs.Laws.Project.{fresh-on, on-begin}
 use Rattle.recovery.specs.declared.Session.{Session}
 use Rattle.recovery.specs.Session.{floods}
 use Rattle.recovery.specs.Formed.{recordAnswer}
@@ -27,7 +27,7 @@ use Rattle.history.specs.History.{Call, cut, deliver, run, mend, status,
 use Rattle.history.specs.Rules.{Now, effect, changedBy, ruleNext}
 use Rattle.history.specs.Demand.{Sized, seen, arcs}
 use Rattle.history.specs.Laws.RuledRun.{play-frames}
-use Rattle.history.specs.Laws.RuledCalls.{answerOf, made, fresh-each, refusal-is, made-seen}
+use Rattle.history.specs.Laws.RuledCalls.{answerOf, made, refusal-is, made-seen}
 
 -- every call, as a cut or a mend, hands the session back where it refuses
 next-is : (c : Call) (s : Session) → next c s ≡ change (answerOf c s) s (made c s) .session
@@ -73,8 +73,8 @@ next-mesh-plan c s = next-keeps (λ t. (t .mesh ≡ s .mesh) × (t .plan ≡ s .
 pub fresh-sized : (m : Mesh) (p : Plan) → Sized (freshOn m p)
 unfolding fresh
 fresh-sized m p = record {
-  states = fresh-each (λ f. length (f .states) ≡ 256) (length-replicate {A = ℕ} 256 0);
-  reached = fresh-each (λ f. length (f .reached) ≡ 64) (length-replicate 64 false);
+  states = λ w. rw (fresh-on w 256 64) (length-replicate {A = ℕ} 256 0);
+  reached = λ w. rw (fresh-on w 256 64) (length-replicate 64 false);
 }
 
 pub next-sized : (c : Call) (s : Session) → Sized s → Sized (next c s)

@@ -15,15 +15,16 @@ use Rattle.scan.specs.Total.{bit}
 use Rattle.flood.specs.declared.Flood.{Flood}
 use Rattle.flood.specs.Digraph.{Digraph, Failure}
 use Rattle.flood.specs.Machine as machine
+use Rattle.flood.specs.Laws.Order.{accepted-most}
 use Rattle.wavelengths.specs.declared.Floods.{Floods}
 use Rattle.wavelengths.specs.declared.Wavelength.{Wavelength}
-use Rattle.wavelengths.specs.declared.Wavelength.the-variants.{First, Second}
-use Rattle.wavelengths.specs.Wavelength.{same, isWavelength, wavelengthOf, numberOf, on}
+use Rattle.wavelengths.specs.Wavelength.{isWavelength, wavelengthOf, numberOf, on}
 use Rattle.wavelengths.specs.Merge as merge
 use Rattle.wavelengths.specs.Merge.{Turn, turn, linksOn, freshOnEach, step, play, order}
-use Rattle.wavelengths.specs.Laws.Wavelength.{wavelength-named}
+use Rattle.wavelengths.specs.Laws.Wavelength.{same-self, wavelength-named}
 use Rattle.wavelengths.specs.Laws.Project.{links-own, links-append, step-own, play-append}
-use Rattle.wavelengths.specs.Guarantees as runs
+use Rattle.wavelengths.specs.Laws.Run.{order-on}
+use Rattle.wavelengths.specs.Laws.Rest.{share-within}
 use Rattle.mesh.specs.declared.Mesh.{Mesh}
 use Rattle.mesh.specs.declared.Plan.{Plan}
 use Rattle.mesh.specs.declared.Answer.{Answer}
@@ -46,7 +47,7 @@ use Rattle.history.specs.Laws.RuledCalls.{run-made}
 use Rattle.history.specs.Laws.RuledNext.{fresh-sized}
 use Rattle.history.specs.Laws.Ruled.{after-sized}
 use Rattle.history.specs.Laws.Kept.{cutSession, graphs, lost, begun, played, Since, Kept, free, under}
-use Rattle.history.specs.Laws.Kept.{acted-accepted, accepted-most, since-cut, one-accepted, since-more, played-own, accepted-own}
+use Rattle.history.specs.Laws.Kept.{acted-accepted, since-cut, one-accepted, since-more, played-own, accepted-own}
 use Rattle.history.specs.Laws.Started.{from-start, kept-record, ended-kept, ended-more}
 
 -- the log under the cut of link k, after the deliveries ts
@@ -64,10 +65,6 @@ module _ (m : Mesh) (p : Plan) (w : Wavelength) where
   unfolding floodBy
   kept-flood free = refl
   kept-flood (under q) = played-own m p q w
-
-same-self : (w : Wavelength) → same w w ≡ true
-same-self First = refl
-same-self Second = refl
 
 -- ---- one call
 
@@ -90,12 +87,7 @@ module _ (s : Session) (j u : ℕ) (e : deliverAnswer s j u ≡ Accepted) where
       ap (λ (d : Delivery). note g (deliver by-value j u) (d .answer) n l) delivery-made
       ∙ rw (acted-accepted (digraph s w .tail j) (digraph s w .head j) (at (on w later .states) j))
 
--- of the deliveries of a run no more are on one wavelength than it may make
-share-most : (g : Wavelength → Digraph) (c : Wavelength → Failure) (p : Floods) (a : ℕ) (w : Wavelength) → length (linksOn w (order g c a p)) ≤ a
-share-most g c p a First = omega (arith, runs.run-made g c p a, runs.run-ends g c p a .0)
-share-most g c p a Second = omega (arith, runs.run-made g c p a, runs.run-ends g c p a .0)
-
--- what is noted of it, by its answer
+-- what is noted of a run, by its answer
 run-noted : (g : Digraph) (s : Session) (a : ℕ) {x : Answer} → runAnswer s ≡ x
     → madeBy g (run a) (reply (run a) s) (seen s) ≡ madeBy g (run a) (runAs x s (merge.run (digraph s) (failure s) a (floods s)) .report) (seen s)
 unfolding afterRun
@@ -223,7 +215,7 @@ module _ (m : Mesh) (sized : length (m .links) ≡ 256) (good : planned m .answe
         let passed : runAnswer s ≡ Accepted = rw r in
         let us : List Turn = order (graphs m p) (lost m p k) a (played m p k ts) in
         subst (Own s) (run-made s r z a passed ∙ sym (run-noted (digraphOn m) s a passed))
-        (length (linksOn w us), share-most (graphs m p) (lost m p k) (played m p k ts) a w, runs.run-order (graphs m p) (lost m p k) (played m p k ts) a w)
+        (length (linksOn w us), share-within (graphs m p) (lost m p k) (played m p k ts) w a, order-on (graphs m p) (lost m p k) w a (played m p k ts))
 
 pub undisturbed : (m : Mesh) → length (m .links) ≡ 256 → planned m .answer ≡ Accepted → (calls : List Call) (w : Wavelength) → Undisturbed m calls w
 undisturbed m sized good calls w =

@@ -19,6 +19,7 @@ use Rattle.flood.specs.Topology.{underWayOf}
 use Rattle.wavelengths.specs.declared.Floods.{Floods}
 use Rattle.wavelengths.specs.Wavelength.{each, wavelengthOf, on, pair}
 use Rattle.wavelengths.specs.Merge.{atRest}
+use Rattle.wavelengths.specs.Laws.Wavelength.{each-on}
 use Rattle.formed.specs.Laws.Forming.{record-few}
 use Rattle.refusals.specs.Refusals as refusals
 use Rattle.refusals.specs.Refusals.{standing}
@@ -28,7 +29,7 @@ use Rattle.pieces.specs.Laws.Tested.{tested-is}
 use Rattle.queries.specs.declared.Told.{Told}
 use Rattle.queries.specs.Counts.{linksBy}
 use Rattle.queries.specs.Queries.{zeroTold}
-use Rattle.queries.specs.Laws.Counts.{each-on, length-counted}
+use Rattle.queries.specs.Laws.Counts.{length-counted}
 use Rattle.queries.proofs.status.Statement.{statement}
 use Rattle.queries.proofs.status.Tie as tie
 

@@ -20,7 +20,7 @@ use Rattle.flood.specs.Topology.{underWayOf}
 use Rattle.wavelengths.specs.declared.Floods.{Floods}
 use Rattle.wavelengths.specs.declared.Wavelength.{Wavelength}
 use Rattle.wavelengths.specs.declared.Wavelength.the-variants.{First, Second}
-use Rattle.wavelengths.specs.Wavelength.{each, on}
+use Rattle.wavelengths.specs.Wavelength.{on}
 use Rattle.wavelengths.specs.Merge as both
 use Rattle.formed.specs.declared.Cut.{Cut}
 use Rattle.formed.specs.declared.Cut.the-variants as cuts
@@ -42,14 +42,9 @@ module _ (g : Digraph) (f : Flood) (few : g .links ≤ 256) where
   unfolding underWayOf atRest some
   resting-counted = rw (all) (count-any (λ i. underWay (at (f .states) i)) (g .links))
 
--- what is found of the flood on each wavelength, on one of them
-pub each-on : {A : Type 0} (found : Flood → A) (w : Wavelength) (f : Floods) → each (found (f .first)) (found (f .second)) w ≡ found (on w f)
-each-on found First f = refl
-each-on found Second f = refl
-
 -- the floods on the two wavelengths of a mesh under a plan
 module _ (m : Mesh) (p : Plan) (f : Floods) (few : m .count ≤ 256) where
-  pub both-counted : (resting (m .count) (f .first .states) && resting (m .count) (f .second .states)) ≡ both.atRest (λ w. backupOn w m p) f
+  both-counted : (resting (m .count) (f .first .states) && resting (m .count) (f .second .states)) ≡ both.atRest (λ w. backupOn w m p) f
   unfolding both.atRest
   both-counted = rw (resting-counted (backupOn First m p) (f .first) few, resting-counted (backupOn Second m p) (f .second) few)
 

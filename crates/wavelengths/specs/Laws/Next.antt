@@ -22,7 +22,7 @@ use Rattle.wavelengths.specs.Merge.{turn, busy, accepts, atRest, next}
 use Rattle.wavelengths.specs.Laws.Wavelength.{same-is}
 
 -- an accepted link below which none is accepted is the flood's own next
-pub own-next : (g : Digraph) (f : Flood) (j : ℕ) → machine.accepts g j f ≡ true → None (λ i. machine.accepts g i f) j → (machine.atRest g f ≡ false) × (own.next g f ≡ j)
+own-next : (g : Digraph) (f : Flood) (j : ℕ) → machine.accepts g j f ≡ true → None (λ i. machine.accepts g i f) j → (machine.atRest g f ≡ false) × (own.next g f ≡ j)
 unfolding machine.atRest machine.some machine.first machine.accepts
 own-next g f j t h =
     let (l, _) = accepts-says g j f .0 t in

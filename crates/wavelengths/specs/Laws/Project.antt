@@ -12,9 +12,9 @@ use Rattle.flood.specs.declared.Flood.{Flood}
 use Rattle.flood.specs.Machine as machine
 use Rattle.wavelengths.specs.declared.Floods.{Floods}
 use Rattle.wavelengths.specs.declared.Wavelength.the-variants.{First, Second}
-use Rattle.wavelengths.specs.Wavelength.{Wavelength, same, on}
-use Rattle.wavelengths.specs.Merge.{Turn, linksOn, busy, accepts, begin, step, play, accepted}
-use Rattle.wavelengths.specs.Laws.Wavelength.{same-is, on-put}
+use Rattle.wavelengths.specs.Wavelength.{Wavelength, same, on, pair}
+use Rattle.wavelengths.specs.Merge.{Turn, linksOn, freshOnEach, busy, accepts, begin, step, play, accepted}
+use Rattle.wavelengths.specs.Laws.Wavelength.{same-is, on-put, on-put-other}
 
 -- ---- a list of deliveries
 
@@ -50,14 +50,25 @@ links-all (t ∷ ts) = go (t .wavelength) (links-all ts)
     go First h = omega arith
     go Second h = omega arith
 
-module _ (g : Wavelength → Digraph) (c : Wavelength → Failure) where
-  -- ---- the failure, and a delivery
+-- ---- the failure, and a delivery
 
+-- before the failure each flood is fresh
+pub fresh-on : (w : Wavelength) (l n : ℕ) → on w (freshOnEach l n) ≡ machine.fresh l n
+fresh-on First l n = refl
+fresh-on Second l n = refl
+
+module _ (g : Wavelength → Digraph) (c : Wavelength → Failure) where
   -- on each wavelength the failure is the flood's own
   pub on-begin : (w : Wavelength) (p : Floods) → on w (begin g c p) ≡ machine.begin (g w) (c w) (on w p)
   unfolding begin
   on-begin First p = refl
   on-begin Second p = refl
+
+  -- where each flood begins, both do
+  pub begin-known : (p : Floods) {one two : Flood} → one ≡ machine.begin (g First) (c First) (p .first) → two ≡ machine.begin (g Second) (c Second) (p .second)
+      → pair one two ≡ begin g c p
+  unfolding begin
+  begin-known p e d = λ j. pair (e j) (d j)
 
   -- on wavelength w a delivery is the flood's own, and on the other it leaves the flood as it is
   pub step-own : (w : Wavelength) (t : Turn) (p : Floods) → same w (t .wavelength) ≡ true → on w (step g c t p) ≡ machine.step (g w) (c w) (t .link) (on w p)
@@ -66,7 +77,7 @@ module _ (g : Wavelength → Digraph) (c : Wavelength → Failure) where
 
   pub step-other : (w : Wavelength) (t : Turn) (p : Floods) → same w (t .wavelength) ≡ false → on w (step g c t p) ≡ on w p
   unfolding step
-  step-other w t p e = rw (on-put w (t .wavelength) (machine.step (g (t .wavelength)) (c (t .wavelength)) (t .link) (on (t .wavelength) p)) p, e)
+  step-other w t p e = on-put-other w (t .wavelength) _ p e
 
   -- ---- deliveries in turn
 

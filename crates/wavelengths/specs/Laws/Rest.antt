@@ -21,14 +21,14 @@ use Rattle.wavelengths.specs.Laws.Run.{order-accepted, run-ends, order-o
 
 module _ (g : Wavelength → Digraph) (c : Wavelength → Failure) (p : Floods) where
   -- the flood's own run on wavelength w with the allowance n
-  abbrev pub ownRun : Wavelength → ℕ → machine.Ran
+  abbrev ownRun : Wavelength → ℕ → machine.Ran
   ownRun w n = machine.run (g w) (c w) n (on w p)
 
-  abbrev pub Rests : Wavelength → ℕ → Type 0
+  abbrev Rests : Wavelength → ℕ → Type 0
   Rests w n = machine.atRest (g w) (ownRun w n .flood) ≡ true
 
   -- how many deliveries of a run with the allowance a are on wavelength w
-  abbrev pub share : Wavelength → ℕ → ℕ
+  abbrev share : Wavelength → ℕ → ℕ
   share w a = length (linksOn w (order g c a p))
 
   -- they lead to the flood that its own run with so many leads to
@@ -47,7 +47,12 @@ module _ (g : Wavelength → Digraph) (c : Wavelength → Failure) (p : Floods) 
   unfolding run
   shares a = links-all (order g c a p) ∙ sym (order-accepted g c a p)
 
-  -- they are no more than an own run to rest makes
+  -- so that they are no more than it may make
+  pub share-within : (w : Wavelength) (a : ℕ) → share w a ≤ a
+  share-within First a = omega (arith, shares a, run-ends g c a p .0)
+  share-within Second a = omega (arith, shares a, run-ends g c a p .0)
+
+  -- and no more than an own run to rest makes
   share-most : (w : Wavelength) (n a : ℕ) → Rests w n → share w a ≤ n
   share-most w n a r = elim (decLt n (share w a)) [
     | yes h ↦
