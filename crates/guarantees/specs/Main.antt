@@ -37,10 +37,10 @@ use Rattle.formed.specs.WellFormed.{PlanFormed}
 use Rattle.formed.specs.Laws.Forming.{start-formed, refused-start}
 use Rattle.recovery.specs.Formed.{Formed, recordAnswer}
 use Rattle.recovery.specs.Laws.Forming.{record-formed, refused-record}
-use Rattle.recovery.specs.Calls.{digraph, routeOf}
+use Rattle.recovery.specs.Calls.{digraph}
 use Rattle.history.specs.History.{Call, reply, next, refused, refusedAt}
 use Rattle.history.specs.Log.{deliveriesOn}
-use Rattle.history.specs.Demand.{Sized, CallFollows, Demand3, AtRest, OnePath, Measured, hadOn, ended, log, Undisturbed, RunsAlone}
+use Rattle.history.specs.Demand.{Sized, CallFollows, Demand3, AtRest, Routes, Measured, hadOn, ended, log, Undisturbed, RunsAlone}
 use Rattle.history.specs.Laws.Refused.{refused-keeps, record-refusal-answers}
 use Rattle.history.specs.Laws.Ruled.{call-as-ruled}
 use Rattle.history.specs.Laws.Recovered.{demand-3}
@@ -170,10 +170,9 @@ call-follows = call-as-ruled
 pub demand-three : (m : Mesh) → InRange m → planned m .answer ≡ Accepted → (calls : List Call) → Demand3 m calls
 demand-three m r = demand-3 m (r .entries)
 
--- and the route query on that wavelength then gives that path
+-- and the route query on that wavelength is then accepted and gives that path, whatever the other does
 pub demand-three-route : (m : Mesh) → InRange m → planned m .answer ≡ Accepted → (calls : List Call) (k : ℕ)
-    → log m calls .cut ≡ Link k → (w : Wavelength) → AtRest (ended m calls) w
-    → OnePath (ended m calls) w (digraph (ended m calls) w .head k) (digraph (ended m calls) w .tail k) (routeOf (ended m calls) w)
+    → log m calls .cut ≡ Link k → (w : Wavelength) → AtRest (ended m calls) w → Routes (ended m calls) w k
 demand-three-route m r = demand-route m (r .entries)
 
 -- ---- 02, request 1: the fibre length of the route, over every list of calls (contract: crates/recovery/src/lib.rt, `Session::status`)

@@ -65,10 +65,14 @@ module _ (s : Session) (w : Wavelength) where
     pub further : (i : ℕ) → (accepted (afterDelivery s i (numberOf w) .answer) ≡ true) ↔ UnderWay i
     pub route : AtRest → (row : List ℕ) × OnePath (digraph s w .head k) (digraph s w .tail k) row
 
-  -- at rest on both wavelengths under a cut: the route query is accepted; status accepts every link and answers its state, that none is under way, and a
-  -- route length, which is that of the links that the route query gives
-  pub record Measured : Type 0 where
+  -- with nothing under way under a cut of link k, whatever the other wavelength does: the route query is accepted, and gives the one simple path
+  pub record Routes (k : ℕ) : Type 0 where
     pub given : routed s (numberOf w) ≡ routedAs Accepted (routeOf s w)
+    pub path : OnePath (digraph s w .head k) (digraph s w .tail k) (routeOf s w)
+
+  -- at rest on both wavelengths under a cut: status accepts every link and answers its state, that none is under way, and a route length, which is that of
+  -- the links that the route query gives
+  pub record Measured : Type 0 where
     pub told : (j : ℕ) → j < s .mesh .count → reply (status j (numberOf w)) s ≡ statuses.Link (stateOn j) 0 (routeLengthOf s w)
     pub length : LengthAlong (lengths (s .mesh)) (routeOf s w) (routeLengthOf s w)
 

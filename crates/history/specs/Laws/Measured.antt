@@ -27,7 +27,7 @@ use Rattle.recovery.specs.declared.Session.{Session}
 use Rattle.recovery.specs.Session.{floods}
 use Rattle.recovery.specs.Formed.{recordAnswer}
 use Rattle.recovery.specs.declared.Status.the-variants as statuses
-use Rattle.recovery.specs.Calls.{digraph, resting, statusOf, routeLengthOf, routeOf, routedAs, routed}
+use Rattle.recovery.specs.Calls.{digraph, resting, statusOf, routeLengthOf, routeOf}
 use Rattle.history.specs.History.{Call}
 use Rattle.history.specs.Demand.{AtRest, stateOn, OnePath, Measured, ended, log}
 use Rattle.history.specs.Laws.Kept.{cutSession, played, under, kept-cut}
@@ -38,12 +38,7 @@ module _ (s : Session) (accepted : recordAnswer s ≡ Accepted) (stands : standi
   both-rest : resting s ≡ true
   both-rest = rest-says (digraph s) (floods s) .1 (rest-seen s First (rest First), rest-seen s Second (rest Second))
 
-  -- the route query is accepted
-  given : routed s (numberOf w) ≡ routedAs Accepted (routeOf s w)
-  unfolding routed refusals.routeAnswer
-  given = let (named, is) = wavelength-named w in rw (accepted, named, stands, is)
-
-  -- and so is a status, with no link under way
+  -- a status is accepted, with no link under way
   told : (j : ℕ) → j < s .mesh .count → statusOf s j (numberOf w) ≡ statuses.Link (stateOn s w j) 0 (routeLengthOf s w)
   unfolding statusOf refusals.statusAnswer
   told j l =
@@ -63,7 +58,7 @@ module _ (s : Session) (accepted : recordAnswer s ≡ Accepted) (stands : standi
       )))
 
   pub measured : {x y : ℕ} → OnePath s w x y (routeOf s w) → Measured s w
-  measured P = record { given = given; told = told; length = along P }
+  measured P = record { told = told; length = along P }
 
 pub demand-length : (m : Mesh) → length (m .links) ≡ 256 → planned m .answer ≡ Accepted → (calls : List Call) (k : ℕ) → log m calls .cut ≡ Link k
     → ((w : Wavelength) → AtRest (ended m calls) w) → (w : Wavelength) → Measured (ended m calls) w

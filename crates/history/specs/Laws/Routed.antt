@@ -1,7 +1,7 @@
 -- At rest of a wavelength under a cut its taken links are one simple path, its flood's route, and the route query gives it, whatever the other wavelength
 -- does. Assumes 256 entries in the mesh's list of links.
 use Prim.Native.Nat.{ℕ}
-use mathlib.Core.Path.{_≡_, sym, subst}
+use mathlib.Core.Path.{_≡_, refl, sym, subst}
 use mathlib.Core.Logic.{inl, inr}
 use mathlib.Core.Bool.{true}
 use mathlib.Core.List.{List}
@@ -14,7 +14,8 @@ use Rattle.flood.specs.Laws.Tests.{at-rest-says}
 use Rattle.flood.specs.Laws.Route.{rest-route}
 use Rattle.flood.specs.Laws.RouteQuery.{route-from-is}
 use Rattle.wavelengths.specs.declared.Wavelength.{Wavelength}
-use Rattle.wavelengths.specs.Wavelength.{on}
+use Rattle.wavelengths.specs.Wavelength.{numberOf, on}
+use Rattle.wavelengths.specs.Laws.Wavelength.{wavelength-named}
 use Rattle.wavelengths.specs.Merge.{Turn}
 use Rattle.mesh.specs.declared.Mesh.{Mesh}
 use Rattle.mesh.specs.declared.Plan.{Plan}
@@ -23,11 +24,14 @@ use Rattle.planner.specs.Plan.{planned}
 use Rattle.formed.specs.declared.Cut.the-variants.{Link}
 use Rattle.recovery.specs.declared.Session.{Session}
 use Rattle.recovery.specs.Session.{floods}
-use Rattle.recovery.specs.Calls.{digraph, failure, restingOn, routeOf}
+use Rattle.recovery.specs.Formed.{recordAnswer}
+use Rattle.refusals.specs.Refusals as refusals
+use Rattle.refusals.specs.Refusals.{standing}
+use Rattle.recovery.specs.Calls.{digraph, failure, restingOn, routeOf, routedAs, routed}
 use Rattle.history.specs.History.{Call}
-use Rattle.history.specs.Demand.{AtRest, OnePath, ended, log}
-use Rattle.history.specs.Laws.Kept.{cutSession, played, Since, kept-cut}
-use Rattle.history.specs.Laws.Started.{sound, progress, ended-kept}
+use Rattle.history.specs.Demand.{AtRest, OnePath, Routes, ended, log}
+use Rattle.history.specs.Laws.Kept.{cutSession, played, under, Since, kept-cut}
+use Rattle.history.specs.Laws.Started.{sound, progress, kept-record, ended-kept}
 
 module _ (s : Session) (w : Wavelength) where
   abbrev g : Digraph
@@ -69,8 +73,14 @@ module _ (m : Mesh) (sized : length (m .links) ≡ 256) (accepted : planned m .a
         let (row, route) = rest-route (digraph s w) (failure s w) (progress m accepted sized q w) t (sound m accepted sized q w) in
         subst (OnePath s w (digraph s w .head k) (digraph s w .tail k)) (sym (query-is s w t route)) (route-path s w (failure s w) route)
 
+-- the route query is accepted
+given : (s : Session) → recordAnswer s ≡ Accepted → standing (s .cut) ≡ true → (w : Wavelength) → routed s (numberOf w) ≡ routedAs Accepted (routeOf s w)
+unfolding routed refusals.routeAnswer
+given s r c w = let (named, is) = wavelength-named w in rw (r, named, c, is)
+
 pub demand-route : (m : Mesh) → length (m .links) ≡ 256 → planned m .answer ≡ Accepted → (calls : List Call) (k : ℕ) → log m calls .cut ≡ Link k → (w : Wavelength)
-    → let s = ended m calls in AtRest s w → OnePath s w (digraph s w .head k) (digraph s w .tail k) (routeOf s w)
+    → let s = ended m calls in AtRest s w → Routes s w k
 demand-route m sized accepted calls =
-    kept-cut m (planned m .plan) (λ s k ts. (w : Wavelength) → AtRest s w → OnePath s w (digraph s w .head k) (digraph s w .tail k) (routeOf s w))
-    (λ k ts. rest-path m sized accepted) (ended-kept m accepted sized calls)
+    kept-cut m (planned m .plan) (λ s k ts. (w : Wavelength) → AtRest s w → Routes s w k)
+    (λ k ts q w r. record { given = given _ (kept-record m accepted sized (under q)) refl w; path = rest-path m sized accepted q w r })
+    (ended-kept m accepted sized calls)
