@@ -30,7 +30,7 @@ use Rattle.flooding.specs.Ended.{Ended, Turned}
 -- ---- the lowest link under way of one flood
 
 -- below it none is
-pub lowest-clear : (l : List ℕ) (n k : ℕ) → k ≡ lowest (busy l) n → None (busy l) k
+lowest-clear : (l : List ℕ) (n k : ℕ) → k ≡ lowest (busy l) n → None (busy l) k
 lowest-clear l n k e i h = lowest-is (busy l) n .before i (omega arith)
 
 -- after a delivery on it the next search may start where the delivery says

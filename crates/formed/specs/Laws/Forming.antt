@@ -34,11 +34,11 @@ use Rattle.formed.specs.WellFormed.{Bounded, PlanFormed, CutFormed, Floo
 -- ---- one entry
 
 module _ (links top i v : ℕ) where
-  pub over-within : i < links → v ≤ top → isOver links top i v ≡ false
+  over-within : i < links → v ≤ top → isOver links top i v ≡ false
   unfolding isOver
   over-within h l = rw (lt-ltb i links h, le-ltb top v l)
 
-  pub over-past : links ≤ i → isOver links top i v ≡ not (eqb v 0)
+  over-past : links ≤ i → isOver links top i v ≡ not (eqb v 0)
   unfolding isOver
   over-past h = rw (le-ltb i links h) (ltb-zero v)
 
@@ -46,7 +46,7 @@ module _ (links top i v : ℕ) where
 
 -- the entries of the plan, or the states
 module _ (links top : ℕ) (entries : List ℕ) (few : links ≤ 256) where
-  pub bounded-says : Says (not (overflows links top entries)) (Bounded links top entries)
+  bounded-says : Says (not (overflows links top entries)) (Bounded links top entries)
   unfolding overflows isOver
   bounded-says = (λ t. to (any-fails over 256 (not-says _ .0 t)), λ B. not-says _ .1 (any-none over 256 256 (from B) (omega arith)))
     where
@@ -72,7 +72,7 @@ cut-says m (cuts.Link k) = (
   λ h. not-says _ .1 (lt-leb (m .count) k (h k refl)),
 )
 
-pub strays-says : (n : ℕ) (reached : List Bool) → Says (not (strays n reached)) ((v : ℕ) → v < 64 → has reached v ≡ true → v < n)
+strays-says : (n : ℕ) (reached : List Bool) → Says (not (strays n reached)) ((v : ℕ) → v < 64 → has reached v ≡ true → v < n)
 unfolding strays isStray
 strays-says n reached = (
   λ t v b r. elim (decLt v n) [ yes l ↦ l | no l ↦ clash (stray v .1 (omega arith, r)) (any-fails p 64 (not-says _ .0 t) v b) ],
@@ -92,12 +92,12 @@ module _ (m : Mesh) (f : Flood) (few : m .count ≤ 256) where
       nor-says (overflows (m .count) 4 (f .states)) (strays (m .nodes) (f .reached))
       (bounded-says (m .count) 4 (f .states) few) (strays-says (m .nodes) (f .reached))
 
-  pub flood-says : Says (not (floodFault m f)) (FloodFormed m f)
+  flood-says : Says (not (floodFault m f)) (FloodFormed m f)
   flood-says = (λ t. let (a, b) = flood-parts .0 t in record { states = a; reached = b }, λ F. flood-parts .1 (F .states, F .reached))
 
 -- the floods on the two wavelengths
 module _ (m : Mesh) (f : Floods) (few : m .count ≤ 256) where
-  pub floods-says : Says (not (floodsFault m f)) ((w : Wavelength) → FloodFormed m (on w f))
+  floods-says : Says (not (floodsFault m f)) ((w : Wavelength) → FloodFormed m (on w f))
   unfolding floodsFault
   floods-says = (λ t w. each (both .0 t) w, λ F. both .1 (F First, F Second))
     where

@@ -57,7 +57,7 @@ module _ (s : Session) (accepted : recordAnswer s ≡ Accepted) (stands : standi
         λ (l, t). P .all-taken i .1 (l, eq-says _ 2 .0 t),
       )))
 
-  pub measured : {x y : ℕ} → OnePath s w x y (routeOf s w) → Measured s w
+  measured : {x y : ℕ} → OnePath s w x y (routeOf s w) → Measured s w
   measured P = record { told = told; length = along P }
 
 pub demand-length : (m : Mesh) → length (m .links) ≡ 256 → planned m .answer ≡ Accepted → (calls : List Call) (k : ℕ) → log m calls .cut ≡ Link k

@@ -33,10 +33,10 @@ fresh-follows m p = seen-follows (fresh-seen m p)
 -- ---- one call
 
 module _ (s : Session) (n : Now) (z : Sized s) (r : recordAnswer s ≡ Accepted) (F : Follows s n) where
-  pub reply-follows : (c : Call) → reply c s ≡ ruleReply (arcs s) (lengths (s .mesh)) c n
+  reply-follows : (c : Call) → reply c s ≡ ruleReply (arcs s) (lengths (s .mesh)) c n
   reply-follows c = reply-seen s z r c ∙ ap (ruleReply (arcs s) (lengths (s .mesh)) c) (follows-seen F)
 
-  pub next-follows : (c : Call) → Follows (next c s) (ruleNext (arcs s) c n)
+  next-follows : (c : Call) → Follows (next c s) (ruleNext (arcs s) c n)
   next-follows c = seen-follows (next-seen s z r c ∙ ap (ruleNext (arcs s) c) (follows-seen F))
 
 -- from what the session holds
@@ -50,7 +50,7 @@ call-as-ruled s z r c =
 same-backup : {m m′ : Mesh} {p p′ : Plan} → (m ≡ m′) × (p ≡ p′) → backup m p ≡ backup m′ p′
 same-backup (a, b) = ap₂ backup a b
 
-pub after-mesh-plan : (calls : List Call) (s : Session) → (after calls s .mesh ≡ s .mesh) × (after calls s .plan ≡ s .plan)
+after-mesh-plan : (calls : List Call) (s : Session) → (after calls s .mesh ≡ s .mesh) × (after calls s .plan ≡ s .plan)
 unfolding after
 after-mesh-plan [] s = (refl, refl)
 after-mesh-plan (c ∷ cs) s =

@@ -68,7 +68,7 @@ module _ (g : Digraph) (x : Cut) where
     unfolding accepts busy
     next-below = let w : Wavelength = next graphs p .wavelength in accepts-says (graphs w) j (on w p) .0 (next-accepted graphs p r) .0
 
-    pub next-ruled : next graphs p ≡ nextTurn g (seenOf x p)
+    next-ruled : next graphs p ≡ nextTurn g (seenOf x p)
     unfolding next
     next-ruled =
         let either : ℕ → Bool = λ i. busy graphs First p i || busy graphs Second p i in

@@ -13,7 +13,6 @@ use Rattle.scan.specs.Lowest.{any, any-zero, any-says}
 use Rattle.scan.specs.Total.{total}
 use Rattle.scan.specs.Distinct.{Distinct, total-distinct}
 use Rattle.scan.specs.Listed.{Listing, total-listed, any-listed}
-use Rattle.metres.specs.declared.Length.{Length}
 use Rattle.metres.specs.declared.Length.the-variants.{Metres, NotKnown}
 use Rattle.metres.specs.Length.{lengthOf, LengthAlong}
 

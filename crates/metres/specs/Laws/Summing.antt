@@ -6,7 +6,6 @@ use native.Mathlib.Numerals.{add-one}
 use lib.Dec.{eqb}
 use Rattle.scan.specs.Lowest.{any, any-zero, any-turn}
 use Rattle.scan.specs.Total.{total, total-next}
-use Rattle.metres.specs.declared.Length.{Length}
 use Rattle.metres.specs.declared.Length.the-variants.{Metres, NotKnown}
 use Rattle.metres.specs.Length.{lengthOf}
 

@@ -6,7 +6,6 @@ use mathlib.Core.Bool.{cond}
 use mathlib.Core.List.{List}
 use native.Mathlib.Omega.{arith}
 use denote.Ref.{now}
-use Rattle.scan.specs.Entry.{at}
 use Rattle.scan.specs.Sweep.{sweepTo, sweep-none, sweep-turn}
 use Rattle.flood.specs.Lent.{leaving}
 use Rattle.offers.proofs.offer_all.Statement.{statement}

@@ -1,10 +1,9 @@
 -- `clients::book::rewrite` meets its contract, and by the inverse laws of reading and writing an accepted book comes out as it is.
-use mathlib.Core.Path.{_≡_, _∙_, ap}
+use mathlib.Core.Path.{_∙_, ap}
 use native.Mathlib.Omega.{arith}
-use lib.ListN.{length}
 use Rattle.scan.specs.Bytes.{AreBytes}
 use Rattle.codec.specs.declared.Decoded.{Decoded}
-use Rattle.codec.specs.Book.{encoded, outputAfter}
+use Rattle.codec.specs.Book.{outputAfter}
 use Rattle.codec.specs.Laws.Read.{output-decoded}
 use borrow.Author.Needs.{needs}
 use Rattle.clients.proofs.book.rewrite.Statement.{statement}

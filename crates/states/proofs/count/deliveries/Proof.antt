@@ -4,7 +4,6 @@ use Prim.Native.Nat.{_+_, _*_, _-_, _≤_}
 use mathlib.Core.Path.{_≡_, refl, _∙_, sym, ap₂}
 use native.Mathlib.Omega.{arith}
 use native.Mathlib.Numerals.{add-one}
-use denote.Ref.{now}
 use Rattle.scan.specs.Entry.{at}
 use Rattle.scan.specs.Total.{total, total-next}
 use Rattle.flood.specs.Machine.{weight}
