@@ -21,8 +21,8 @@ use Rattle.call.specs.declared.Made.{Made}
 abbrev pub numbers : ℕ → ℕ → ℕ → ℕ → Numbers
 numbers case first second third = record { case = case; first = first; second = second; third = third }
 
--- 0 a refusal, with its number and its place; 1 accepted; 2 taken, 3 turned back, 4 released, with the node that acted; 5 the deliveries that a run made on both wavelengths, with 1 at
--- rest and else 0; 6 a status whose route length is known, with the link's state, how many links are under way, and the length in metres; 7 a status whose
+-- 0 a refusal, with its number and its place; 1 accepted; 2 taken, 3 turned back, 4 released, with the node that acted; 5 the deliveries that a
+-- run made on both wavelengths, with 1 at rest and else 0; 6 a status whose route length is known, with the link's state, how many links are under way, and the length in metres; 7 a status whose
 -- route length is not known, with the other two
 abbrev pub refusalNumbers : ℕ → ℕ → Numbers
 refusalNumbers number place = numbers 0 number place 0

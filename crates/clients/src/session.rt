@@ -1,6 +1,5 @@
 // Where the lists of demand 3 begin, and what one cut leads to.
 ghost use mathlib.Core.Path.{_≡_};
-ghost use Rattle.flood.specs.Topology.{hadOf};
 ghost use Rattle.recovery.specs.Calls.{started, routed};
 ghost use Rattle.history.specs.Demand.{Sized};
 ghost use Rattle.clients.specs.Sessions.{begun, recovered};
@@ -11,7 +10,7 @@ use mesh::Plan;
 use recovery::Change;
 use recovery::Routed;
 use recovery::Session;
-use states::count::deliveries;
+use states::count;
 
 // The allowance of an unhindered run.
 const UNHINDERED: u32 = 4294967295;
@@ -51,15 +50,6 @@ pub fn begin(m: Mesh) -> Begun
     }
 }
 
-// How many deliveries the links have had on wavelength 1, by their states.
-fn first_deliveries(s: Session) -> u16
-    ensures { λ r. ⌜ r ≡ hadOf (s .mesh .count) (s .first .states) ⌝ }
-{
-    let mesh = s.mesh;
-    let first = s.first;
-    deliveries(&first.states, mesh.count as usize)
-}
-
 // Cuts a link on a session, lets it run, and asks for the link's status and the route on wavelength 1. The lists of a session that a function is given have
 // the lengths that `Sized` says.
 pub fn recover(s: Session, link: u16) -> Recovered
@@ -71,7 +61,9 @@ pub fn recover(s: Session, link: u16) -> Recovered
     let run = cut.run(UNHINDERED);
     let report = run.report;
     let ended = run.session;
-    let deliveries = first_deliveries(ended);
+    let mesh = ended.mesh;
+    let first = ended.first;
+    let deliveries = count::deliveries(&first.states, mesh.count as usize);
     let status = ended.status(link, FIRST);
     let routed = route(ended, FIRST);
     Recovered {

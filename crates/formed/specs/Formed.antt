@@ -31,13 +31,13 @@ planFault m p = overflows (m .count) 1 (p .directions)
 unfoldable pub floodFault : Mesh → Flood → Bool
 floodFault m f = overflows (m .count) 4 (f .states) || strays (m .nodes) (f .reached)
 
+-- an ill-formed flood on either wavelength
+unfoldable pub floodsFault : Mesh → Floods → Bool
+floodsFault m f = floodFault m (f .first) || floodFault m (f .second)
+
 -- starting on a mesh and a plan: mesh, 13
 unfoldable pub startAnswer : Mesh → Plan → Answer
 startAnswer m p = andThen (meshAnswer m) (must (not (planFault m p)) 13 0 Accepted)
-
--- on either wavelength
-unfoldable pub floodsFault : Mesh → Floods → Bool
-floodsFault m f = floodFault m (f .first) || floodFault m (f .second)
 
 -- a session's record, by its pieces: mesh, 13
 unfoldable pub recordAnswer : Mesh → Plan → Cut → Floods → Answer

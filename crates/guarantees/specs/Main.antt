@@ -155,7 +155,7 @@ call-refuses = record-refusal-answers
 
 -- ---- demand 2: the recovery calls, on every session (contracts: crates/recovery/src/lib.rt and crates/in_place/src/lib.rt)
 
--- on any session whose record is accepted, whatever led to it, every call, by value or in place, refused or not, does what 01's rules say: they give
+-- on any session whose record is accepted, whatever led to it, every call, by value or in place, refused or not, does what 01's and 02's rules say: they give
 -- its answer, and the cut, states and reached nodes of the session that it returns or leaves, on the same mesh and plan
 pub call-follows : (s : Session) → Sized s → recordAnswer s ≡ Accepted → (c : Call) → CallFollows s c
 call-follows = call-as-ruled
@@ -186,12 +186,13 @@ demand-three-length m r = demand-length m (r .entries)
 
 -- ---- 02, request 2: the other wavelength, over every list of calls
 
--- on wavelength 2 the ends of a link's primary arc change places
-pub ends-exchanged : (s : Session) (k : ℕ) → (digraph s wavelengths.Second .head k ≡ digraph s wavelengths.First .tail k) × (digraph s wavelengths.Second .tail k ≡ digraph s wavelengths.First .head k)
+-- on wavelength 2 the ends of a link's back-up arc, and so x and y, change places
+pub ends-exchanged : (s : Session) (k : ℕ)
+    → (digraph s wavelengths.Second .head k ≡ digraph s wavelengths.First .tail k) × (digraph s wavelengths.Second .tail k ≡ digraph s wavelengths.First .head k)
 ends-exchanged s k = (refl, refl)
 
 -- the wavelengths do not disturb each other: what a list makes of one wavelength, its states, its reached nodes and its deliveries in order, is what its calls
--- on that wavelength alone make
+-- on that wavelength alone make, the cut that stands and one delivery call for each of these deliveries
 pub wavelengths-undisturbed : (m : Mesh) → InRange m → planned m .answer ≡ Accepted → (calls : List Call) (w : Wavelength) → Undisturbed m calls w
 wavelengths-undisturbed m r = undisturbed m (r .entries)
 

@@ -154,18 +154,19 @@ callsOn w (Link k) js = cut by-value k ∷ map (λ (j : ℕ). deliver by-value j
 callsOn w Nothing js = []
 
 module _ (m : Mesh) (calls : List Call) (w : Wavelength) where
-  -- the calls of the list on wavelength w alone
+  -- the list on wavelength w alone: the cut that stands and, for each delivery made on w since, by a delivery call or by a run, a delivery call
   abbrev pub alone : List Call
   alone = callsOn w (log m calls .cut) (madeOn w (log m calls))
 
-  -- what the list makes of wavelength w, its states, reached nodes and deliveries in order, is what its calls on that wavelength alone make
+  -- what the list makes of wavelength w, its states, reached nodes and deliveries in order, is what its calls on that wavelength alone make. Which deliveries
+  -- are accepted, whatever the other wavelength does, is said by `Recovers`
   pub record Undisturbed : Type 0 where
     pub same-cut : log m alone .cut ≡ log m calls .cut
     pub same-flood : on w (floods (ended m alone)) ≡ on w (floods (ended m calls))
     pub same-deliveries : madeOn w (log m alone) ≡ madeOn w (log m calls)
 
-  -- a run with the allowance a after the list makes on wavelength w, in order, the deliveries that a run of that wavelength alone makes with some
-  -- allowance n, which are at most a
+  -- a run with the allowance a after the list makes on wavelength w, in order, the deliveries that a run of that wavelength alone makes with an allowance n
+  -- that is at most a
   pub record RunsAlone (a : ℕ) : Type 0 where
     pub n : ℕ
     pub most : n ≤ a

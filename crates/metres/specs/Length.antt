@@ -14,7 +14,8 @@ use Rattle.metres.specs.declared.Length.the-variants.{Metres, NotKnown}
 unfoldable pub lengthOf : (ℕ → ℕ) → (ℕ → Bool) → ℕ → Length
 lengthOf length on n = cond (any (λ i. on i && eqb (length i) 0) n) NotKnown (Metres (total (λ i. cond (on i) (length i) 0) n))
 
--- 02's route length, where `rest` says that a cut stands and no link is under way: then that of the taken links (state 2), otherwise 0 metres
+-- 02's route length, where `rest` says that a cut stands and no link is under way on either wavelength: then that of the links taken (state 2) on one
+-- of them, otherwise 0 metres
 unfoldable pub routeLength : Bool → (ℕ → ℕ) → (ℕ → ℕ) → ℕ → Length
 routeLength rest length state n = cond rest (lengthOf length (λ i. eqb (state i) 2) n) (Metres 0)
 

@@ -1,4 +1,4 @@
-// The refusals of each call in 01's order, on what they look at. `tested` is the answer to the record: its refusal comes first.
+// The refusals of each call in the order of 01 and 02, on what they look at. `tested` is the answer to the record: its refusal comes first.
 use formed::Cut;
 use mesh::Answer;
 use wavelengths::is_wavelength;

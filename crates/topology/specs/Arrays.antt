@@ -7,14 +7,21 @@ use Rattle.scan.specs.Entry.{at}
 use Rattle.scan.specs.Fill.{filled}
 use Rattle.ends.specs.Ends.{lowOf, highOf}
 use Rattle.wavelengths.specs.declared.Wavelength.{Wavelength}
-use Rattle.wavelengths.specs.Wavelength.{each}
+use Rattle.wavelengths.specs.Wavelength.{startOn, endOn}
 
--- where the back-up arc of a link with the ends e and the direction d starts, and where it ends: on wavelength 2 it is turned round
+-- where the back-up arc of a link with the ends e and the direction d starts on wavelength 1, and where it ends
+abbrev pub firstTail : ℕ → ℕ → ℕ
+firstTail e d = cond (eqb d 0) (highOf e) (lowOf e)
+
+abbrev pub firstHead : ℕ → ℕ → ℕ
+firstHead e d = cond (eqb d 0) (lowOf e) (highOf e)
+
+-- and on wavelength w
 abbrev pub tailBy : Wavelength → ℕ → ℕ → ℕ
-tailBy w e d = each (cond (eqb d 0) (highOf e) (lowOf e)) (cond (eqb d 0) (lowOf e) (highOf e)) w
+tailBy w e d = startOn w (firstTail e d) (firstHead e d)
 
 abbrev pub headBy : Wavelength → ℕ → ℕ → ℕ
-headBy w e d = each (cond (eqb d 0) (lowOf e) (highOf e)) (cond (eqb d 0) (highOf e) (lowOf e)) w
+headBy w e d = endOn w (firstTail e d) (firstHead e d)
 
 -- an array of 256 entries whose first become the tails, or the heads
 abbrev pub tailsInto : Wavelength → ℕ → List ℕ → List ℕ → List ℕ → List ℕ

@@ -31,9 +31,17 @@ numberOf = each 1 2
 
 -- ---- what each has
 
--- its arcs, by those of wavelength 1: wavelength 2 carries primary streams against the plan, so that every arc is turned round
+-- where an arc that leads from a to b on wavelength 1 starts, and where it ends: wavelength 2 carries primary streams against the plan, so that there every
+-- arc is turned round
+abbrev pub startOn : {A : Type 0} → Wavelength → A → A → A
+startOn w a b = each a b w
+
+abbrev pub endOn : {A : Type 0} → Wavelength → A → A → A
+endOn w a b = each b a w
+
+-- its arcs, by those of wavelength 1
 abbrev pub arcsOn : Wavelength → Digraph → Digraph
-arcsOn w g = record { nodes = g .nodes; links = g .links; tail = each (g .tail) (g .head) w; head = each (g .head) (g .tail) w }
+arcsOn w g = record { nodes = g .nodes; links = g .links; tail = startOn w (g .tail) (g .head); head = endOn w (g .tail) (g .head) }
 
 -- its flood, and the two with another one there
 abbrev pub on : Wavelength → Floods → Flood

@@ -33,8 +33,11 @@ cut-requires c κs = search needs
 run-requires : tie.Need-run-requires
 run-requires c κs = search needs
 
-first-deliveries-requires : tie.Need-first-deliveries-requires
-first-deliveries-requires c κs = search needs
+cast-deliveries : tie.Need-cast-deliveries
+cast-deliveries c = search needs
+
+deliveries-requires : tie.Need-deliveries-requires
+deliveries-requires c κs = search needs
 
 status-requires : tie.Need-status-requires
 status-requires c κs = search needs
@@ -47,11 +50,11 @@ unfolding recovered after
 returns c =
     let told = c .before in
     let had = told .before in
-    let run = had .before .before in
+    let run = had .before .before .before .before .before .before .before in
     let cut = run .before .before in
     let ran : run .run .result ≡ afterRun (afterCut (cut .before .args .s) (cut .before .args .link) .session) 4294967295 =
     run .run .ensures ∙ ap (λ (d : Change). afterRun (d .session) 4294967295) (cut .cut .ensures) in
-    (rw (c .route .ensures, told .status .ensures, had .first-deliveries .ensures, ran), sized (cut .before))
+    (rw (c .route .ensures, told .status .ensures, had .deliveries .ensures, ran), sized (cut .before))
 
 pub recover-spec : {M : Type 1} → statement M
-recover-spec = tie.close (tie.spec cut-requires run-requires first-deliveries-requires status-requires route-requires returns)
+recover-spec = tie.close (tie.spec cut-requires run-requires cast-deliveries deliveries-requires status-requires route-requires returns)
