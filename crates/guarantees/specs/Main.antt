@@ -1,6 +1,6 @@
 -- The theorem page: what is claimed of the library, each theorem stated in full over the definitions that the contracts cite, and proved
 -- by citing one lemma. README.md leads from each demand to its theorem here.
-use Prim.Native.Nat.{ℕ, _≤_, _<_}
+use Prim.Native.Nat.{ℕ, _*_, _≤_, _<_}
 use mathlib.Core.Path.{_≡_, refl}
 use mathlib.Core.Bool.{true}
 use mathlib.Core.Logic.{_⊎_, _↔_}
@@ -40,13 +40,14 @@ use Rattle.recovery.specs.Laws.Forming.{record-formed, refused-record}
 use Rattle.recovery.specs.Calls.{digraph}
 use Rattle.history.specs.History.{Call, reply, next, refused, refusedAt}
 use Rattle.history.specs.Log.{deliveriesOn}
-use Rattle.history.specs.Demand.{Sized, CallFollows, Demand3, AtRest, Routes, Measured, hadOn, ended, log, Undisturbed, RunsAlone}
+use Rattle.history.specs.Demand.{Sized, CallFollows, Demand3, AtRest, Routes, Measured, hadOn, ended, log, Undisturbed, RunsAlone, RunsOut}
 use Rattle.history.specs.Laws.Refused.{refused-keeps, record-refusal-answers}
 use Rattle.history.specs.Laws.Ruled.{call-as-ruled}
 use Rattle.history.specs.Laws.Recovered.{demand-3}
 use Rattle.history.specs.Laws.Routed.{demand-route}
 use Rattle.history.specs.Laws.Measured.{demand-length}
 use Rattle.history.specs.Laws.Undisturbed.{undisturbed, runs-alone}
+use Rattle.history.specs.Laws.Unhindered.{runs-out}
 use Rattle.history.specs.Laws.Counted.{had-made}
 use Rattle.guarantees.specs.Bench.{Row, table, Holds}
 use Rattle.guarantees.specs.Laws.Computed.{row-holds}
@@ -199,6 +200,12 @@ wavelengths-undisturbed m r = undisturbed m (r .entries)
 -- a run's deliveries on one wavelength, taken alone, are those of a run of that wavelength
 pub run-alone : (m : Mesh) → InRange m → planned m .answer ≡ Accepted → (calls : List Call) (w : Wavelength) (a : ℕ) → RunsAlone m calls w a
 run-alone m r = runs-alone m (r .entries)
+
+-- under a cut a run with an allowance of at least four for each link is, on each wavelength, the whole run of that wavelength alone, and nothing is under way
+-- after it
+pub run-unhindered : (m : Mesh) → InRange m → planned m .answer ≡ Accepted → (calls : List Call) (k : ℕ)
+    → log m calls .cut ≡ Link k → (a : ℕ) → 4 * m .count ≤ a → (w : Wavelength) → RunsOut m calls w a
+run-unhindered m r = runs-out m (r .entries)
 
 -- the states of a wavelength's links tell how many deliveries were made on it since the cut: so `meshplan` counts those of wavelength 1 (contract:
 -- crates/clients/src/session.rt, `recover`; its number by the list of calls: crates/clients/specs/Laws/Shown.antt)

@@ -172,3 +172,10 @@ module _ (m : Mesh) (calls : List Call) (w : Wavelength) where
     pub most : n ≤ a
     pub same : madeOn w (log m (calls ++ (run a ∷ [])))
         ≡ madeOn w (log m calls) ++ machine.order (digraph (ended m calls) w) (failure (ended m calls) w) n (on w (floods (ended m calls)))
+
+  -- with an allowance that is enough for both wavelengths a run makes on each all the deliveries of a run of that wavelength alone, and nothing is under way
+  -- on it then
+  pub record RunsOut (a : ℕ) : Type 0 where
+    pub same : madeOn w (log m (calls ++ (run a ∷ [])))
+        ≡ madeOn w (log m calls) ++ machine.order (digraph (ended m calls) w) (failure (ended m calls) w) a (on w (floods (ended m calls)))
+    pub rests : AtRest (ended m (calls ++ (run a ∷ []))) w

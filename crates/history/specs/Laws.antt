@@ -14,4 +14,5 @@ pub mod RuledSteps
 pub mod RuledTests
 pub mod Started
 pub mod Undisturbed
+pub mod Unhindered
 pub mod Wording

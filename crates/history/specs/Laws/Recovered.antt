@@ -2,13 +2,13 @@
 -- follows the rules. Assumes 256 entries in the mesh's list of links.
 use Prim.Native.Nat.{ℕ}
 use mathlib.Core.Path.{_≡_, refl, sym, ap, subst}
-use mathlib.Core.Logic.{⊎-elim, _↔_}
+use mathlib.Core.Logic.{_↔_}
 use mathlib.Core.Bool.{true}
 use mathlib.Core.List.{List, _∷_, _++_}
 use lib.ListN.{length}
 use Rattle.scan.specs.Test.{clash}
 use Rattle.scan.specs.Entry.{at}
-use Rattle.flood.specs.Laws.Tests.{accepts-says, at-rest-says}
+use Rattle.flood.specs.Laws.Tests.{accepts-says}
 use Rattle.flood.specs.Laws.Cut.{cut-made, cut-made-rest}
 use Rattle.wavelengths.specs.declared.Floods.{Floods}
 use Rattle.wavelengths.specs.declared.Wavelength.{Wavelength}
@@ -33,7 +33,7 @@ use Rattle.history.specs.Rules.{start, ruled, ruleReply}
 use Rattle.history.specs.Demand.{UnderWay, Recovers, Follows, startedOn, digraphOn, Demand3}
 use Rattle.history.specs.Laws.Kept.{cutSession, played, Since, under, acted-accepted, kept-holds, kept-cut}
 use Rattle.history.specs.Laws.Started.{started-fresh, progress, kept-record, ended-kept}
-use Rattle.history.specs.Laws.Routed.{rest-path}
+use Rattle.history.specs.Laws.Routed.{seen-rest, rest-path}
 use Rattle.history.specs.Laws.RuledNext.{fresh-sized}
 use Rattle.history.specs.Laws.Ruled.{Passing, fresh-follows, list-follows, list-answers}
 
@@ -75,7 +75,7 @@ module _ (m : Mesh) (good : planned m .answer ≡ Accepted) where
       let f = progress m good sized q w in
       record {
         at-most = cut-made (q .link) f;
-        used-up = λ e i (l, u). let (a, b) = at-rest-says (digraph s w) (on w (floods s)) .0 (cut-made-rest (q .link) f e) i l in ⊎-elim a b u;
+        used-up = λ e. seen-rest s w (cut-made-rest (q .link) f e);
         further = further s w (kept-record m good sized (under q)) refl;
         route = λ r. (routeOf s w, rest-path m sized good q w r);
       }

@@ -2,7 +2,7 @@
 -- does. Assumes 256 entries in the mesh's list of links.
 use Prim.Native.Nat.{ℕ}
 use mathlib.Core.Path.{_≡_, refl, sym, subst}
-use mathlib.Core.Logic.{inl, inr}
+use mathlib.Core.Logic.{inl, inr, ⊎-elim}
 use mathlib.Core.Bool.{true}
 use mathlib.Core.List.{List}
 use lib.ListN.{length}
@@ -43,6 +43,9 @@ module _ (s : Session) (w : Wavelength) where
   -- no link is under way
   pub rest-seen : AtRest s w → restingOn s w ≡ true
   rest-seen r = at-rest-says g f .1 (λ i l. (λ e. r i (l, inl e), λ e. r i (l, inr e)))
+
+  pub seen-rest : restingOn s w ≡ true → AtRest s w
+  seen-rest t i (l, u) = let (offered, refused) = at-rest-says g f .0 t i l in ⊎-elim offered refused u
 
   -- the flood's route is the path
   route-path : (c : Failure) {row : List ℕ} → Route g c (at (f .states)) row → OnePath s w (c .source) (c .target) row

@@ -35,6 +35,7 @@ use Rattle.formed.specs.declared.Cut.the-variants.{Nothing, Link}
 use Rattle.refusals.specs.Refusals as refusals
 use Rattle.recovery.specs.declared.Change.{Change}
 use Rattle.recovery.specs.declared.Delivery.{Delivery}
+use Rattle.recovery.specs.declared.Run.{Run}
 use Rattle.recovery.specs.declared.Session.{Session}
 use Rattle.recovery.specs.Session.{floods}
 use Rattle.recovery.specs.Calls.{digraph, failure, withFloods, freshOn, cutOn, change, cutAnswer, deliverAnswer, runAnswer, deliveryAs, runAs, afterCut, afterDelivery, afterRun}
@@ -87,11 +88,17 @@ module _ (s : Session) (j u : ℕ) (e : deliverAnswer s j u ≡ Accepted) where
       ap (λ (d : Delivery). note g (deliver by-value j u) (d .answer) n l) delivery-made
       ∙ rw (acted-accepted (digraph s w .tail j) (digraph s w .head j) (at (on w later .states) j))
 
--- what is noted of a run, by its answer
-run-noted : (g : Digraph) (s : Session) (a : ℕ) {x : Answer} → runAnswer s ≡ x
-    → madeBy g (run a) (reply (run a) s) (seen s) ≡ madeBy g (run a) (runAs x s (merge.run (digraph s) (failure s) a (floods s)) .report) (seen s)
+-- what a run gives, by its answer
+run-answered : (s : Session) (a : ℕ) {x : Answer} → runAnswer s ≡ x → afterRun s a ≡ runAs x s (merge.run (digraph s) (failure s) a (floods s))
 unfolding afterRun
-run-noted g s a e = ap (λ (x : Answer). madeBy g (run a) (runAs x s (merge.run (digraph s) (failure s) a (floods s)) .report) (seen s)) e
+run-answered s a e = ap (λ (x : Answer). runAs x s (merge.run (digraph s) (failure s) a (floods s))) e
+
+-- the deliveries that are noted of it
+abbrev noted : Mesh → Session → ℕ → Run → List Turn
+noted m s a r = madeBy (digraphOn m) (run a) (r .report) (seen s)
+
+abbrev pub runTurns : Mesh → Session → ℕ → List Turn
+runTurns m s a = noted m s a (afterRun s a)
 
 -- ---- from a planned mesh
 
@@ -108,6 +115,13 @@ module _ (m : Mesh) (sized : length (m .links) ≡ 256) (good : planned m .answe
     cut-made : afterCut (freshOn m p) k ≡ record { session = cutSession m p k (played m p k []); answer = Accepted }
     unfolding afterCut play
     cut-made = ap (λ (a : Answer). change a (freshOn m p) (cutOn (freshOn m p) k)) cut-passes
+
+    -- what holds of it, and of what is noted, holds after that one call
+    pub just-cut : (P : Session → Log → Type 0) → P (cutSession m p k (played m p k [])) (since k []) → P (ended m (cut by-value k ∷ [])) (log m (cut by-value k ∷ []))
+    unfolding after answers logged
+    just-cut P h =
+        from-start m good (λ s n. P (next (cut by-value k) s) (note (digraphOn m) (cut by-value k) (reply (cut by-value k) s) n emptyLog))
+        (subst (λ (r : Change). P (r .session) (note (digraphOn m) (cut by-value k) (r .answer) (seen (freshOn m p)) emptyLog)) (sym cut-made) h)
 
     cut-logged : (cs : List Call) (n : Now) (l : Log) → logged (digraphOn m) (answers (cut by-value k ∷ cs) (freshOn m p)) n l
         ≡ logged (digraphOn m) (answers cs (cutSession m p k (played m p k []))) (ruleNext (digraphOn m) (cut by-value k) n) (since k [])
@@ -197,25 +211,43 @@ module _ (m : Mesh) (sized : length (m .links) ≡ 256) (good : planned m .answe
 
   -- ---- a run
 
-  ended-sized : (calls : List Call) → Sized (ended m calls)
+  pub ended-sized : (calls : List Call) → Sized (ended m calls)
   ended-sized calls = from-start m good (λ s n. Sized (after calls s)) (after-sized calls (freshOn m p) (fresh-sized m p))
+
+  -- under a cut it is accepted, and its deliveries are those of the floods' run
+  module _ {k : ℕ} {ts : List Turn} (q : Since m p k ts) (a : ℕ) where
+    abbrev t : Session
+    t = cutSession m p k (played m p k ts)
+
+    run-passes : runAnswer t ≡ Accepted
+    unfolding refusals.runAnswer
+    run-passes = rw (kept-record m good sized (under q))
+
+    pub run-is : afterRun t a ≡ runAs Accepted t (merge.run (graphs m p) (lost m p k) a (played m p k ts))
+    run-is = run-answered t a run-passes
+
+    pub run-order : Sized t → runTurns m t a ≡ order (graphs m p) (lost m p k) a (played m p k ts)
+    run-order z = ap (noted m t a) run-is ∙ sym (run-made t (kept-record m good sized (under q)) z a run-passes)
 
   module _ (w : Wavelength) (a : ℕ) where
     -- the deliveries us are, on wavelength w, those of its own run
     abbrev Own : Session → List Turn → Type 0
     Own s us = (n : ℕ) × (n ≤ a) × (linksOn w us ≡ machine.order (digraph s w) (failure s w) n (on w (floods s)))
 
-    run-own : {s : Session} {l : Log} → Kept m p s l → Sized s → Own s (madeBy (digraphOn m) (run a) (reply (run a) s) (seen s))
+    run-own : {s : Session} {l : Log} → Kept m p s l → Sized s → Own s (runTurns m s a)
     unfolding linksOn machine.order refusals.runAnswer
     run-own {s} free z =
         let refused : runAnswer s ≡ Refused 23 0 = rw (kept-record m good sized free) in
-        subst (Own s) (sym (run-noted (digraphOn m) s a refused)) (0, omega arith, refl)
+        subst (Own s) (sym (ap (noted m s a) (run-answered s a refused))) (0, omega arith, refl)
     run-own {s} (under {k} {ts} q) z =
-        let r = kept-record m good sized (under q) in
-        let passed : runAnswer s ≡ Accepted = rw r in
         let us : List Turn = order (graphs m p) (lost m p k) a (played m p k ts) in
-        subst (Own s) (run-made s r z a passed ∙ sym (run-noted (digraphOn m) s a passed))
+        subst (Own s) (sym (run-order q a z))
         (length (linksOn w us), share-within (graphs m p) (lost m p k) (played m p k ts) w a, order-on (graphs m p) (lost m p k) w a (played m p k ts))
+
+    -- after the calls they follow those made before
+    pub run-logged : (calls : List Call) → madeOn w (log m (calls ++ (run a ∷ []))) ≡ madeOn w (log m calls) ++ linksOn w (runTurns m (ended m calls) a)
+    unfolding answers logged
+    run-logged calls = ap (madeOn w) (ended-more m good sized calls (run a ∷ [])) ∙ links-append w (log m calls .made) _
 
 pub undisturbed : (m : Mesh) → length (m .links) ≡ 256 → planned m .answer ≡ Accepted → (calls : List Call) (w : Wavelength) → Undisturbed m calls w
 undisturbed m sized good calls w =
@@ -229,15 +261,10 @@ undisturbed m sized good calls w =
     }
 
 pub runs-alone : (m : Mesh) → length (m .links) ≡ 256 → planned m .answer ≡ Accepted → (calls : List Call) (w : Wavelength) (a : ℕ) → RunsAlone m calls w a
-unfolding answers logged
 runs-alone m sized good calls w a =
-    let l : Log = log m calls in
     let (n, most, own) = run-own m sized good w a (ended-kept m good sized calls) (ended-sized m sized good calls) in
     record {
       n = n;
       most = most;
-      same =
-          ap (madeOn w) (ended-more m good sized calls (run a ∷ []))
-          ∙ links-append w (l .made) _
-          ∙ ap (λ (js : List ℕ). madeOn w l ++ js) own;
+      same = run-logged m sized good w a calls ∙ ap (λ (js : List ℕ). madeOn w (log m calls) ++ js) own;
     }

@@ -63,7 +63,7 @@ module _ (g : Wavelength → Digraph) (c : Wavelength → Failure) (p : Floods) 
   ]
 
   -- at rest they are all of an own run to rest
-  links-rest : (w : Wavelength) (n a : ℕ) → Rests w n → machine.atRest (g w) (on w (run g c a p .floods)) ≡ true
+  pub links-rest : (w : Wavelength) (n a : ℕ) → Rests w n → machine.atRest (g w) (on w (run g c a p .floods)) ≡ true
       → linksOn w (order g c a p) ≡ machine.order (g w) (c w) n (on w p)
   links-rest w n a r s =
       order-on g c w a p ∙ order-same (g w) (c w) n (share w a) (on w p) r (rw (← run-on w a) s)
