@@ -3,6 +3,7 @@
 use Prim.Native.Nat.{ℕ}
 use mathlib.Core.Bool.{Bool, cond, not, _&&_}
 use mathlib.Core.List.{List}
+use lib.Bits.{bitOr}
 use lib.Dec.{eqb, ltb, leb}
 use Rattle.scan.specs.Entry.{at, has}
 use Rattle.scan.specs.Lowest.{any}
@@ -30,6 +31,14 @@ abbrev pub highest : Kind → ℕ
 highest kinds.Direction = 1
 highest kinds.State = 4
 
--- entry i is past the last link and not zero
-abbrev pub isLeftover : ℕ → List ℕ → ℕ → Bool
-isLeftover links entries i = leb links i && not (eqb (at entries i) 0)
+-- the bits of three numbers
+abbrev pub joinedBits : ℕ → ℕ → ℕ → ℕ
+joinedBits a b c = bitOr (bitOr a b) c
+
+-- entry i of one of three arrays is not zero
+abbrev pub isUsed : List ℕ → List ℕ → List ℕ → ℕ → Bool
+isUsed a b c i = not (eqb (joinedBits (at a i) (at b i) (at c i)) 0)
+
+-- entry i is past the last link, and in use
+abbrev pub isLeftover : ℕ → (ℕ → Bool) → ℕ → Bool
+isLeftover links used i = leb links i && used i

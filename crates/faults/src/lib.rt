@@ -6,9 +6,9 @@ ghost use Prim.Native.Nat.{ℕ, _+_, _≤_, max};
 ghost use lib.Dec.{eqb, ltb};
 ghost use Rattle.scan.specs.Entry.{at};
 ghost use Rattle.scan.specs.Lowest.{any};
-ghost use Rattle.faults.specs.Faults.{overflows, strays, highest, isLeftover};
+ghost use Rattle.faults.specs.Faults.{overflows, strays, highest, joinedBits, isUsed, isLeftover};
 
-// What the entries of an array are: one loop tests both kinds.
+// What the entries of an array are.
 pub enum Kind {
     Direction,
     State,
@@ -36,43 +36,65 @@ const BLOCK: usize = 64;
 // Where the last whole block starts.
 const LAST_BLOCK: usize = 192;
 
-// Whether an entry of the block at `from` is not zero: some bit of some entry is set.
-fn is_used(entries: &[u8; 256], from: usize) -> bool
+// The bits of three entries.
+fn joined(a: u8, b: u8, c: u8) -> u8
+    ensures { λ r. ⌜ r ≡ joinedBits a b c ⌝ }
+{
+    a | b | c
+}
+
+// Whether an entry of the block at `from`, in one of three arrays, is not zero: some bit of some entry is set.
+fn is_used<'a>(
+    directions: &[u8; 256],
+    first: &'a [u8; 256],
+    second: &'a [u8; 256],
+    from: usize,
+) -> bool
     requires { ⌜ from + 64 ≤ 256 ⌝ }
-    ensures { λ r. ⌜ r ≡ any (λ j. not (eqb (at (now (entries .entry)) (from + j)) 0)) 64 ⌝ }
+    ensures { λ r. ⌜ r ≡ any (λ j. isUsed (now (directions .entry)) (now (first .entry)) (now (second .entry)) (from + j)) 64 ⌝ }
 {
     let mut bits: u8 = 0;
     let mut j: usize = 0;
     while j < BLOCK {
-        bits = bits | entries[from + j];
+        bits = bits | joined(directions[from + j], first[from + j], second[from + j]);
         j += 1;
     }
     bits != 0
 }
 
 // Whether an entry from `from` on is not zero, where less than a block is left.
-fn is_tail_used(entries: &[u8; 256], from: usize) -> bool
-    ensures { λ r. ⌜ r ≡ any (isLeftover from (now (entries .entry))) 256 ⌝ }
+fn is_tail_used<'a>(
+    directions: &[u8; 256],
+    first: &'a [u8; 256],
+    second: &'a [u8; 256],
+    from: usize,
+) -> bool
+    ensures { λ r. ⌜ r ≡ any (isLeftover from (isUsed (now (directions .entry)) (now (first .entry)) (now (second .entry)))) 256 ⌝ }
 {
     let mut bits: u8 = 0;
     let mut i = from;
     while i < 256 {
-        bits = bits | entries[i];
+        bits = bits | joined(directions[i], first[i], second[i]);
         i += 1;
     }
     bits != 0
 }
 
 // Whether an entry past the last link is not zero. The last block is a whole one, so that no entry is tested by itself.
-fn has_leftover(links: u16, entries: &[u8; 256]) -> bool
-    ensures { λ r. ⌜ r ≡ any (isLeftover links (now (entries .entry))) 256 ⌝ }
+fn has_leftover<'a>(
+    links: u16,
+    directions: &[u8; 256],
+    first: &'a [u8; 256],
+    second: &'a [u8; 256],
+) -> bool
+    ensures { λ r. ⌜ r ≡ any (isLeftover links (isUsed (now (directions .entry)) (now (first .entry)) (now (second .entry)))) 256 ⌝ }
 {
     let mut i = links as usize;
     if LAST_BLOCK < i {
-        return is_tail_used(entries, i);
+        return is_tail_used(directions, first, second, i);
     }
     while i < 256 {
-        if is_used(entries, lower(i, LAST_BLOCK)) {
+        if is_used(directions, first, second, lower(i, LAST_BLOCK)) {
             return true;
         }
         i += BLOCK;
@@ -99,11 +121,20 @@ fn largest(entries: &[u8; 256]) -> u8
     top
 }
 
-// Whether a direction is above 1, a state above 4, or an entry past the last link not zero.
-pub fn has_bad_entry(kind: Kind, links: u16, entries: &[u8; 256]) -> bool
-    ensures { λ r. ⌜ r ≡ overflows links (highest kind) (now (entries .entry)) ⌝ }
+// Whether a direction is above 1, a state of one of two wavelengths above 4, or an entry of theirs past the last link not zero: one loop tests the
+// entries past the last link of all three arrays.
+pub fn has_bad_entry<'a>(
+    links: u16,
+    directions: &[u8; 256],
+    first: &'a [u8; 256],
+    second: &'a [u8; 256],
+) -> bool
+    ensures { λ r. ⌜ r ≡ (overflows links 1 (now (directions .entry)) || (overflows links 4 (now (first .entry)) || overflows links 4 (now (second .entry)))) ⌝ }
 {
-    is_above(kind, largest(entries)) | has_leftover(links, entries)
+    let top = larger(largest(first), largest(second));
+    is_above(Kind::Direction, largest(directions))
+        | is_above(Kind::State, top)
+        | has_leftover(links, directions, first, second)
 }
 
 // Whether a node not below N is reached, on one of two wavelengths: one loop tests both.

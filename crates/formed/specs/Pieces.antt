@@ -13,8 +13,8 @@ use Rattle.formed.specs.Formed.{misplaced}
 -- the plan, the cut or a flood of a mesh with n nodes and k links is ill formed
 unfoldable pub illFormed : ℕ → ℕ → List ℕ → Cut → Floods → Bool
 illFormed n k directions c f =
-    overflows k 1 directions || misplaced k c
-    || overflows k 4 (f .first .states) || overflows k 4 (f .second .states)
+    (overflows k 1 directions || (overflows k 4 (f .first .states) || overflows k 4 (f .second .states)))
+    || misplaced k c
     || (strays n (f .first .reached) || strays n (f .second .reached))
 
 -- a session's record, whose mesh is answered with `tested`: that refusal, or 13

@@ -5,7 +5,6 @@ ghost use Rattle.formed.specs.Formed.{cutLink, misplaced};
 ghost use Rattle.formed.specs.Pieces.{illFormed, recordAfter};
 ghost use Rattle.flood.specs.Lent.{flood};
 ghost use Rattle.wavelengths.specs.Wavelength.{pair};
-use faults::Kind;
 use faults::has_bad_entry;
 use faults::has_stray;
 use mesh::Answer;
@@ -50,10 +49,8 @@ fn is_ill_formed<'a>(
     ensures { λ r. ⌜ r ≡ illFormed nodes count (now (directions .entry)) cut
         (pair (flood (now (states1 .entry)) (now (reached1 .entry))) (flood (now (states2 .entry)) (now (reached2 .entry)))) ⌝ }
 {
-    has_bad_entry(Kind::Direction, count, directions)
+    has_bad_entry(count, directions, states1, states2)
         | is_misplaced(count, cut)
-        | has_bad_entry(Kind::State, count, states1)
-        | has_bad_entry(Kind::State, count, states2)
         | has_stray(nodes, reached1, reached2)
 }
 

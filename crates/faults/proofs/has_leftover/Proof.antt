@@ -5,16 +5,16 @@ use mathlib.Core.Bool.{false}
 use native.Mathlib.Omega.{arith}
 use borrow.Author.Needs.{needs}
 use Rattle.scan.specs.Lowest.{any}
-use Rattle.faults.specs.Faults.{isLeftover}
+use Rattle.faults.specs.Faults.{isUsed, isLeftover}
 use Rattle.faults.specs.Laws.Scans.{past-none, past-block, past-found, past-all}
 use Rattle.faults.proofs.has_leftover.Statement.{statement}
 use Rattle.faults.proofs.has_leftover.Tie as tie
 
 abbrev Inv-loop : tie.InvT-loop
-Inv-loop links entries i₀ i = (links ≤ i) × (false ≡ any (isLeftover links entries) (min i 256))
+Inv-loop links directions first second i₀ i = (links ≤ i) × (false ≡ any (isLeftover links (isUsed directions first second)) (min i 256))
 
 abbrev μ-loop : tie.MeasureT-loop
-μ-loop links entries i₀ i = 256 - i
+μ-loop links directions first second i₀ i = 256 - i
 
 is-tail-used-requires : tie.Need-is-tail-used-requires Inv-loop μ-loop
 is-tail-used-requires c κs = search needs

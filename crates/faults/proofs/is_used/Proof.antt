@@ -5,26 +5,41 @@ use mathlib.Core.Bool.{not}
 use native.Mathlib.Omega.{arith}
 use lib.Dec.{eqb}
 use borrow.Author.Needs.{needs}
-use Rattle.scan.specs.Entry.{at}
 use Rattle.scan.specs.Lowest.{any, any-zero, any-turn}
+use Rattle.faults.specs.Faults.{isUsed}
 use Rattle.faults.specs.Laws.Scans.{or-nonzero}
 use Rattle.faults.proofs.is_used.Statement.{statement}
 use Rattle.faults.proofs.is_used.Tie as tie
 
 abbrev Inv-loop : tie.InvT-loop
-Inv-loop entries from bits₀ j₀ bits j = (j ≤ 64) × (not (eqb bits 0) ≡ any (λ k. not (eqb (at entries (from + k)) 0)) j)
+Inv-loop directions first second from bits₀ j₀ bits j = (j ≤ 64) × (not (eqb bits 0) ≡ any (λ k. isUsed directions first second (from + k)) j)
 
 abbrev μ-loop : tie.MeasureT-loop
-μ-loop entries from bits₀ j₀ bits j = 64 - j
+μ-loop directions first second from bits₀ j₀ bits j = 64 - j
 
 loop-holds : tie.Need-loop-holds Inv-loop μ-loop
 loop-holds c = (omega arith, any-zero _)
 
-add-bits : tie.Need-add-bits Inv-loop μ-loop
-add-bits c = search needs
+add-joined : tie.Need-add-joined Inv-loop μ-loop
+add-joined c = search needs
 
-element-copy-out-bits : tie.Need-element-copy-out-bits Inv-loop μ-loop
-element-copy-out-bits c = search needs
+element-copy-out-joined : tie.Need-element-copy-out-joined Inv-loop μ-loop
+element-copy-out-joined c = search needs
+
+add-joined-2 : tie.Need-add-joined-2 Inv-loop μ-loop
+add-joined-2 c = search needs
+
+element-copy-out-joined-2 : tie.Need-element-copy-out-joined-2 Inv-loop μ-loop
+element-copy-out-joined-2 c = search needs
+
+add-joined-3 : tie.Need-add-joined-3 Inv-loop μ-loop
+add-joined-3 c = search needs
+
+element-copy-out-joined-3 : tie.Need-element-copy-out-joined-3 Inv-loop μ-loop
+element-copy-out-joined-3 c = search needs
+
+joined-requires : tie.Need-joined-requires Inv-loop μ-loop
+joined-requires c κs = search needs
 
 add-j : tie.Need-add-j Inv-loop μ-loop
 add-j c = search needs
@@ -34,8 +49,8 @@ loop-less c = search needs
 
 loop-again : tie.Need-loop-again Inv-loop μ-loop
 loop-again c =
-    let lo = c .before .before .loop in
-    (omega arith, any-turn _ (lo .j) _ _ _ (lo .inv .1) refl (or-nonzero (lo .bits) _))
+    let lo = c .before .before .before .before .before .loop in
+    (omega arith, any-turn _ (lo .j) _ _ _ (lo .inv .1) refl (rw (c .joined .ensures) (or-nonzero (lo .bits) _)))
 
 returns : tie.Need-returns Inv-loop μ-loop
 returns c =
@@ -50,8 +65,13 @@ is-used-spec =
     Inv-loop
     μ-loop
     loop-holds
-    add-bits
-    element-copy-out-bits
+    add-joined
+    element-copy-out-joined
+    add-joined-2
+    element-copy-out-joined-2
+    add-joined-3
+    element-copy-out-joined-3
+    joined-requires
     add-j
     loop-less
     loop-again

@@ -1,7 +1,7 @@
 -- Loops that keep whether some entry failed a test so far, and what they say of the entries of a plan or a session. Serves the proofs of `entries`.
 -- Assumes nothing.
 use Prim.Native.Nat.{ℕ, _+_, _<_, _≤_, max, min}
-use mathlib.Core.Path.{_≡_, refl, sym, _∙_}
+use mathlib.Core.Path.{_≡_, refl, sym, ap, _∙_}
 use mathlib.Core.Logic.{_⊎_, inl, inr, ⊎-elim}
 use mathlib.Core.Bool.{Bool, true, false, cond, not, _&&_, _||_, or-false, or-true, and-or-distrib-left}
 use mathlib.Core.List.{List}
@@ -14,7 +14,7 @@ use Rattle.scan.specs.Test.{Says, lt-says, or-says, says-same}
 use Rattle.scan.specs.Bits.{or-zero}
 use Rattle.scan.specs.Entry.{at, has}
 use Rattle.scan.specs.Lowest.{any, any-says, any-same, any-or, any-none, any-turn, any-block}
-use Rattle.faults.specs.Faults.{isOver, overflows, isStray, strays, isLeftover}
+use Rattle.faults.specs.Faults.{isOver, overflows, isStray, strays, isUsed, isLeftover}
 
 -- ---- a loop from n on and below `limit`, over what is not below n and passes q
 
@@ -71,24 +71,59 @@ below-larger b v w = says-same (lt-says b (max v w)) (
 
 -- ---- the entries of a plan or a session
 
+-- those of one array that are not zero
+abbrev nonzero : List ℕ → ℕ → Bool
+nonzero entries i = not (eqb (at entries i) 0)
+
 module _ (links top : ℕ) (entries : List ℕ) where
   abbrev above : ℕ → Bool
   above i = ltb top (at entries i)
 
+  abbrev left : ℕ → Bool
+  left = isLeftover links (nonzero entries)
+
   -- an entry is wrong exactly where it is above the top or left over
-  over-parts : (i : ℕ) → isOver links top i (at entries i) ≡ (above i || isLeftover links entries i)
+  over-parts : (i : ℕ) → isOver links top i (at entries i) ≡ (above i || left i)
   unfolding isOver
   over-parts i = go (decLt i links) (ℕ-discrete (at entries i) 0)
     where
-      go : Dec (i < links) → Dec (at entries i ≡ 0) → ltb (cond (ltb i links) top 0) (at entries i) ≡ (above i || isLeftover links entries i)
+      go : Dec (i < links) → Dec (at entries i ≡ 0) → ltb (cond (ltb i links) top 0) (at entries i) ≡ (above i || left i)
       go (yes l) d = rw (lt-ltb i links l, lt-leb links i l) (sym (or-false (above i)))
       go (no l) (yes z) = rw (le-ltb i links (omega arith), le-leb links i (omega arith), le-ltb 0 (at entries i) (omega arith), eq-eqb (at entries i) 0 z, le-ltb top (at entries i) (omega arith))
       go (no l) (no n) = rw (le-ltb i links (omega arith), le-leb links i (omega arith), lt-ltb 0 (at entries i) (omega arith), ne-eqb (at entries i) 0 n) (sym (or-true (above i)))
 
   -- so one is exactly where one is above the top or one left over
-  pub overflows-parts : (any above 256 || any (isLeftover links entries) 256) ≡ overflows links top entries
+  overflows-parts : (any above 256 || any left 256) ≡ overflows links top entries
   unfolding overflows
-  overflows-parts = sym (any-same _ _ 256 (λ i l. over-parts i) ∙ any-or above (isLeftover links entries) 256)
+  overflows-parts = sym (any-same _ _ 256 (λ i l. over-parts i) ∙ any-or above left 256)
+
+-- three tests, and three more, one by one or in pairs
+in-pairs : (a b c d e f : Bool) → ((a || (b || c)) || ((d || e) || f)) ≡ ((a || d) || ((b || e) || (c || f)))
+in-pairs true b c d e f = refl
+in-pairs false true c true e f = refl
+in-pairs false true c false e f = refl
+in-pairs false false true true e f = refl
+in-pairs false false true false true f = refl
+in-pairs false false true false false f = refl
+in-pairs false false false true e f = refl
+in-pairs false false false false true f = refl
+in-pairs false false false false false f = refl
+
+-- an entry of three arrays is left over just where one of the first is, one of the second or one of the third
+left-each : (links : ℕ) (a b c : List ℕ)
+    → any (isLeftover links (isUsed a b c)) 256 ≡ ((any (left links 0 a) 256 || any (left links 0 b) 256) || any (left links 0 c) 256)
+left-each links a b c =
+    any-same _ _ 256 (λ i l. rw (or-nonzero (bitOr (at a i) (at b i)) (at c i), or-nonzero (at a i) (at b i), and-or-distrib-left (leb links i) (nonzero a i || nonzero b i) (nonzero c i), and-or-distrib-left (leb links i) (nonzero a i) (nonzero b i)))
+    ∙ any-or _ _ 256
+    ∙ ap (λ (t : Bool). t || any (left links 0 c) 256) (any-or (left links 0 a) (left links 0 b) 256)
+
+-- the three arrays have a wrong entry just where one of each kind is too high, or one left over
+pub overflows-each : (links : ℕ) (a b c : List ℕ)
+    → ((any (above links 1 a) 256 || (any (above links 4 b) 256 || any (above links 4 c) 256)) || any (isLeftover links (isUsed a b c)) 256)
+    ≡ (overflows links 1 a || (overflows links 4 b || overflows links 4 c))
+overflows-each links a b c =
+    rw (left-each links a b c, in-pairs (any (above links 1 a) 256) _ _ _ _ _)
+    (λ i. overflows-parts links 1 a i || (overflows-parts links 4 b i || overflows-parts links 4 c i))
 
 -- a node past the last is reached on either of two floods just where one is on the first, or one on the second
 pub strays-either : (nodes : ℕ) (first second : List Bool) → any (λ v. leb nodes v && (has first v || has second v)) 64 ≡ (strays nodes first || strays nodes second)
