@@ -123,28 +123,38 @@ startedOn m = started m (planned m .plan) .session
 abbrev pub digraphOn : Mesh → Digraph
 digraphOn m = backup m (planned m .plan)
 
+-- demand 3 for calls on a session s of the planned mesh m, where the rules stand at n, and the answers before them say l
+module _ (m : Mesh) (s : Session) (n : Now) (l : Log) (calls : List Call) where
+  -- the cut that stands by all answers, and the deliveries accepted since, in order
+  abbrev pub logFrom : Log
+  logFrom = logged (digraphOn m) (answers calls s) n l
+
+  pub record DemandFrom : Type 0 where
+    -- no call is refused for its record
+    pub passes : (first rest : List Call) → calls ≡ first ++ rest → recordAnswer (after first s) ≡ Accepted
+    -- the session after the calls holds the mesh, its plan, and the cut, states and reached nodes that the rules make of the calls alone
+    pub mesh : after calls s .mesh ≡ m
+    pub plan : after calls s .plan ≡ planned m .plan
+    pub follows : Follows (after calls s) (ruled (digraphOn m) calls n)
+    -- each call answers what the rules give after the calls before it
+    pub answered : (first : List Call) (c : Call) (rest : List Call) → calls ≡ first ++ (c ∷ rest)
+        → reply c (after first s) ≡ ruleReply (digraphOn m) (lengths m) c (ruled (digraphOn m) first n)
+    -- the cut that stands by the answers is the session's, and under it the session recovers on each wavelength, by the deliveries of its own
+    pub cut : after calls s .cut ≡ logFrom .cut
+    pub recovers : (k : ℕ) → logFrom .cut ≡ Link k → (w : Wavelength) → Recovers (after calls s) w k (deliveriesOn w logFrom)
+
 module _ (m : Mesh) (calls : List Call) where
   -- the session after the calls; the cut that stands by their answers, and the deliveries accepted since, in order
   abbrev pub ended : Session
   ended = after calls (startedOn m)
 
   abbrev pub log : Log
-  log = logged (digraphOn m) (answers calls (startedOn m)) start emptyLog
+  log = logFrom m (startedOn m) start emptyLog calls
 
+  -- the start is accepted, and the calls hold demand 3 from there
   pub record Demand3 : Type 0 where
-    -- the start is accepted, and no call is refused for its record
     pub starts : started m (planned m .plan) .answer ≡ Accepted
-    pub passes : (first rest : List Call) → calls ≡ first ++ rest → recordAnswer (after first (startedOn m)) ≡ Accepted
-    -- the session after the list holds the mesh, its plan, and the cut, states and reached nodes that the rules make of the list alone
-    pub mesh : ended .mesh ≡ m
-    pub plan : ended .plan ≡ planned m .plan
-    pub follows : Follows ended (ruled (digraphOn m) calls start)
-    -- each call answers what the rules give after the calls before it
-    pub answered : (first : List Call) (c : Call) (rest : List Call) → calls ≡ first ++ (c ∷ rest)
-        → reply c (after first (startedOn m)) ≡ ruleReply (digraphOn m) (lengths m) c (ruled (digraphOn m) first start)
-    -- the cut that stands by the answers is the session's, and under it the session recovers on each wavelength, by the deliveries of its own
-    pub cut : ended .cut ≡ log .cut
-    pub recovers : (k : ℕ) → log .cut ≡ Link k → (w : Wavelength) → Recovers ended w k (deliveriesOn w log)
+    pub holds : DemandFrom m (startedOn m) start emptyLog calls
 
 -- ---- the wavelengths do not disturb each other
 

@@ -53,7 +53,7 @@ module _ (m : Mesh) (ranges : InRange m) (accepted : planned m .answer ≡ Accep
     run-stands = cut-stands
 
     few : ended m calls .mesh .count ≤ 256
-    few = record-few (ended m calls) (demand .passes calls [] refl)
+    few = record-few (ended m calls) (demand .holds .passes calls [] refl)
 
     -- the deliveries are those that the list makes on wavelength 1
     pub own-deliveries : recovered (startedOn m) k .deliveries ≡ deliveriesOn First (log m calls)
@@ -62,7 +62,7 @@ module _ (m : Mesh) (ranges : InRange m) (accepted : planned m .answer ≡ Accep
 
     -- the allowance is enough for both wavelengths
     enough : 4 * m .count ≤ 4294967295
-    enough = omega (arith, few, ap (λ (x : Mesh). x .count) (demand .mesh))
+    enough = omega (arith, few, ap (λ (x : Mesh). x .count) (demand .holds .mesh))
 
     -- so that they are those of a run of wavelength 1 alone, from the cut on a fresh flood
     pub own-run : let g = digraphOn m in

@@ -1,13 +1,14 @@
 -- Demand 3: from what every call keeps follow the record tests, the bounds and the path of each wavelength, and from the record tests that the session
 -- follows the rules. Assumes 256 entries in the mesh's list of links.
 use Prim.Native.Nat.{ℕ}
-use mathlib.Core.Path.{_≡_, refl, sym, ap, subst}
+use mathlib.Core.Path.{_≡_, refl, ap, subst}
 use mathlib.Core.Logic.{_↔_}
 use mathlib.Core.Bool.{true}
 use mathlib.Core.List.{List, _∷_, _++_}
 use lib.ListN.{length}
 use Rattle.scan.specs.Test.{clash}
 use Rattle.scan.specs.Entry.{at}
+use Rattle.flood.specs.Digraph.{Digraph}
 use Rattle.flood.specs.Laws.Tests.{accepts-says}
 use Rattle.flood.specs.Laws.Cut.{cut-made, cut-made-rest}
 use Rattle.wavelengths.specs.declared.Floods.{Floods}
@@ -26,16 +27,17 @@ use Rattle.recovery.specs.declared.Session.{Session}
 use Rattle.recovery.specs.Session.{floods}
 use Rattle.recovery.specs.Formed.{recordAnswer}
 use Rattle.refusals.specs.Refusals.{standing}
-use Rattle.recovery.specs.Calls.{digraph, failure, freshOn, deliveryAs, deliverAnswer, afterDelivery, routeOf}
+use Rattle.recovery.specs.Calls.{digraph, failure, deliveryAs, deliverAnswer, afterDelivery, routeOf}
 use Rattle.recovery.specs.Laws.Tested.{deliver-accepts, deliver-accepted}
 use Rattle.history.specs.History.{Call, reply, after, accepted}
-use Rattle.history.specs.Rules.{start, ruled, ruleReply}
-use Rattle.history.specs.Demand.{UnderWay, Recovers, Follows, startedOn, digraphOn, Demand3}
-use Rattle.history.specs.Laws.Kept.{cutSession, played, Since, under, acted-accepted, kept-holds, kept-cut}
-use Rattle.history.specs.Laws.Started.{started-fresh, progress, kept-record, ended-kept}
+use Rattle.history.specs.Rules.{ruled, ruleReply}
+use Rattle.history.specs.Log.{Log, emptyLog}
+use Rattle.history.specs.Demand.{UnderWay, Recovers, Follows, Sized, seen, arcs, digraphOn, DemandFrom, Demand3}
+use Rattle.history.specs.Laws.Kept.{cutSession, played, Since, Kept, free, under, acted-accepted, kept-holds, kept-cut, calls-kept}
+use Rattle.history.specs.Laws.Started.{started-fresh, from-start, progress, kept-record}
 use Rattle.history.specs.Laws.Routed.{seen-rest, rest-path}
 use Rattle.history.specs.Laws.RuledNext.{fresh-sized}
-use Rattle.history.specs.Laws.Ruled.{Passing, fresh-follows, list-follows, list-answers}
+use Rattle.history.specs.Laws.Ruled.{Passing, follows-self, list-follows, list-answers}
 
 -- a further delivery is accepted just where its link is under way on the wavelength that its number names
 module _ (s : Session) (u : ℕ) where
@@ -80,33 +82,39 @@ module _ (m : Mesh) (good : planned m .answer ≡ Accepted) where
         route = λ r. (routeOf s w, rest-path m sized good q w r);
       }
 
-  -- a session follows the rules where it passes its record tests
-  abbrev Ruled : List Call → Session → Type 0
-  Ruled calls s =
-      Passing calls s
-      → Follows (after calls s) (ruled (digraphOn m) calls start)
-      × ((first : List Call) (c : Call) (rest : List Call) → calls ≡ first ++ (c ∷ rest)
-      → reply c (after first s) ≡ ruleReply (digraphOn m) (lengths m) c (ruled (digraphOn m) first start))
+  -- a session follows the rules where it passes its record tests, from what it holds
+  abbrev Ruled : Digraph → (ℕ → ℕ) → List Call → Session → Type 0
+  Ruled g length calls s =
+      Follows (after calls s) (ruled g calls (seen s))
+      × ((first : List Call) (c : Call) (rest : List Call) → calls ≡ first ++ (c ∷ rest) → reply c (after first s) ≡ ruleReply g length c (ruled g first (seen s)))
 
-  started-ruled : (calls : List Call) → Ruled calls (startedOn m)
-  started-ruled calls = subst (λ (r : Change). Ruled calls (r .session)) (sym (started-fresh m good)) (λ passing. (
-    list-follows (freshOn m p) start calls (fresh-sized m p) passing (fresh-follows m p),
-    list-answers (freshOn m p) start calls (fresh-sized m p) passing (fresh-follows m p),
-  ))
+  seen-ruled : (s : Session) → Sized s → (calls : List Call) → Passing calls s → Ruled (arcs s) (lengths (s .mesh)) calls s
+  seen-ruled s z calls passing =
+      (list-follows s (seen s) calls z passing (follows-self s), list-answers s (seen s) calls z passing (follows-self s))
+
+  kept-ruled : {s : Session} {l : Log} → Kept m p s l → Sized s → (calls : List Call) → Passing calls s → Ruled (digraphOn m) (lengths m) calls s
+  kept-ruled {s} free = seen-ruled s
+  kept-ruled {s} (under q) = seen-ruled s
+
+  -- demand 3 from any session that the calls keep
+  pub demand-from : length (m .links) ≡ 256 → {s : Session} {l : Log} → Kept m p s l → Sized s → (calls : List Call) → DemandFrom m s (seen s) l calls
+  demand-from sized {s} {l} K z calls =
+      let tested : (s : Session) (l : Log) → Kept m p s l → recordAnswer s ≡ Accepted = λ s l. kept-record m good sized in
+      let after-calls = calls-kept m p tested calls K z in
+      let passing : Passing calls s = λ first rest e. kept-record m good sized (calls-kept m p tested first K z) in
+      let (follows, answered) = kept-ruled K z calls passing in
+      record {
+        passes = passing;
+        mesh = kept-holds m p after-calls .0;
+        plan = kept-holds m p after-calls .1;
+        follows = follows;
+        answered = answered;
+        cut = kept-holds m p after-calls .2;
+        recovers = kept-cut m p (λ s k ts. (w : Wavelength) → Recovers s w k (length (linksOn w ts))) (recovers sized) after-calls;
+      }
 
 pub demand-3 : (m : Mesh) → length (m .links) ≡ 256 → planned m .answer ≡ Accepted → (calls : List Call) → Demand3 m calls
-demand-3 m sized good calls =
-    let p : Plan = planned m .plan in
-    let kept = ended-kept m good sized calls in
-    let passing : Passing calls (startedOn m) = λ first rest e. kept-record m good sized (ended-kept m good sized first) in
-    let (follows, answered) = started-ruled m good calls passing in
-    record {
-      starts = ap (λ (r : Change). r .answer) (started-fresh m good);
-      passes = passing;
-      mesh = kept-holds m p kept .0;
-      plan = kept-holds m p kept .1;
-      follows = follows;
-      answered = answered;
-      cut = kept-holds m p kept .2;
-      recovers = kept-cut m p (λ s k ts. (w : Wavelength) → Recovers s w k (length (linksOn w ts))) (recovers m good sized) kept;
-    }
+demand-3 m sized good calls = record {
+  starts = ap (λ (r : Change). r .answer) (started-fresh m good);
+  holds = from-start m good (λ s n. DemandFrom m s n emptyLog calls) (demand-from m good sized free (fresh-sized m (planned m .plan)) calls);
+}

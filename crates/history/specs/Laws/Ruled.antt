@@ -11,11 +11,9 @@ use Rattle.flood.specs.Digraph.{Digraph}
 use Rattle.recovery.specs.declared.Session.{Session}
 use Rattle.recovery.specs.Formed.{recordAnswer}
 use Rattle.topology.specs.Backup.{backup}
-use Rattle.recovery.specs.Calls.{freshOn}
 use Rattle.history.specs.History.{Call, reply, next, after}
-use Rattle.history.specs.Rules.{Now, start, ruleNext, ruleReply, ruled}
+use Rattle.history.specs.Rules.{Now, ruleNext, ruleReply, ruled}
 use Rattle.history.specs.Demand.{Follows, Sized, seen, arcs, CallFollows}
-use Rattle.history.specs.Laws.RuledCalls.{fresh-seen}
 use Rattle.history.specs.Laws.RuledNext.{next-mesh-plan, next-sized, next-seen}
 use Rattle.history.specs.Laws.RuledReply.{reply-seen}
 
@@ -27,8 +25,9 @@ follows-seen F = λ t. record { cut = F .cut t; on = λ w. record { state = λ i
 seen-follows : {s : Session} {n : Now} → seen s ≡ n → Follows s n
 seen-follows e = record { cut = λ t. e t .cut; state = λ w i t. e t .on w .state i; reached = λ w v t. e t .on w .reached v }
 
-pub fresh-follows : (m : Mesh) (p : Plan) → Follows (freshOn m p) start
-fresh-follows m p = seen-follows (fresh-seen m p)
+-- a session is seen as it is
+pub follows-self : (s : Session) → Follows s (seen s)
+follows-self s = seen-follows refl
 
 -- ---- one call
 

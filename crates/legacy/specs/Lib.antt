@@ -1,0 +1,4 @@
+pub mod Record
+pub mod WellFormed
+pub mod Calls
+pub mod History
