@@ -4,7 +4,7 @@ use Prim.Native.Nat.{ℕ, _*_, _≤_, _<_}
 use mathlib.Core.Path.{_≡_, refl}
 use mathlib.Core.Bool.{true}
 use mathlib.Core.Logic.{_⊎_, _↔_}
-use mathlib.Core.List.{List, _++_, List·Memᴰ}
+use mathlib.Core.List.{List, _++_, map, List·Memᴰ}
 use native.Mathlib.Omega.{arith}
 use lib.ListN.{length, take, drop}
 use Rattle.scan.specs.Bytes.{AreBytes}
@@ -37,7 +37,7 @@ use Rattle.formed.specs.WellFormed.{PlanFormed}
 use Rattle.formed.specs.Laws.Forming.{start-formed, refused-start}
 use Rattle.recovery.specs.Formed.{Formed, recordAnswer}
 use Rattle.recovery.specs.Laws.Forming.{record-formed, refused-record}
-use Rattle.recovery.specs.Calls.{digraph}
+use Rattle.recovery.specs.Calls.{digraph, started, routed, routedAs}
 use Rattle.history.specs.History.{Call, reply, next, refused, refusedAt}
 use Rattle.history.specs.Log.{deliveriesOn}
 use Rattle.history.specs.Demand.{Sized, CallFollows, Demand3, AtRest, Routes, Measured, hadOn, ended, log, Undisturbed, RunsAlone, RunsOut}
@@ -49,6 +49,19 @@ use Rattle.history.specs.Laws.Measured.{demand-length}
 use Rattle.history.specs.Laws.Undisturbed.{undisturbed, runs-alone}
 use Rattle.history.specs.Laws.Unhindered.{runs-out}
 use Rattle.history.specs.Laws.Counted.{had-made}
+use Rattle.legacy.specs.declared.OldMesh.{OldMesh}
+use Rattle.legacy.specs.declared.OldSession.{OldSession}
+use Rattle.legacy.specs.Record as oldTest
+use Rattle.legacy.specs.WellFormed as oldRecord
+use Rattle.legacy.specs.Calls as oldCalls
+use Rattle.legacy.specs.Bench as oldRows
+use Rattle.legacy.specs.Laws.Computed.{computed}
+use Rattle.upgrade.specs.Carried.{carried}
+use Rattle.upgrade.specs.Laws.Forming as oldForming
+use Rattle.upgrade.specs.Laws.Carried.{refused-as-start, carried-passes, route-kept}
+use Rattle.carried.specs.Demand.{Planned, CarriedOver, Replays}
+use Rattle.carried.specs.Laws.Demand.{demand-carried}
+use Rattle.carried.specs.Laws.Replayed.{replayed-same}
 use Rattle.guarantees.specs.Bench.{Row, table, Holds}
 use Rattle.guarantees.specs.Laws.Computed.{row-holds}
 
@@ -213,8 +226,50 @@ pub deliveries-told : (m : Mesh) → InRange m → planned m .answer ≡ Accepte
     → log m calls .cut ≡ Link k → (w : Wavelength) → hadOn (ended m calls) w ≡ deliveriesOn w (log m calls)
 deliveries-told m r = had-made m (r .entries)
 
+-- ---- 02, request 3: upgrading a lit mesh (contracts: crates/legacy/src/lib.rt, `check`; crates/upgrade/src/lib.rt, `carry_over`)
+
+-- the test of the record from before wavelength 2 accepts exactly the well-formed ones, and refuses any other on its own condition, at its own place
+pub old-record-accepts : (s : OldSession) → oldRecord.InRange (s .mesh) → (oldTest.recordAnswer s ≡ Accepted) ↔ oldRecord.Formed s
+old-record-accepts = oldForming.record-formed
+
+pub old-record-refuses : (s : OldSession) → oldRecord.InRange (s .mesh) → (number place : ℕ)
+    → oldTest.recordAnswer s ≡ Refused number place → oldRecord.Refusal s number place
+old-record-refuses s r number place = oldForming.refused-record s r
+
+-- a carry-over is refused just so, and gives then what every refused start gives
+pub carry-over-refuses : (s : OldSession) (number place : ℕ) → oldTest.recordAnswer s ≡ Refused number place
+    → (carried s .answer ≡ Refused number place)
+    × ((m : Mesh) (p : Plan) (n q : ℕ) → startAnswer m p ≡ Refused n q → carried s .session ≡ started m p .session)
+carry-over-refuses s number place = refused-as-start s
+
+-- else it is accepted, and what it gives passes its own record test, whatever led to the old session
+pub carry-over-passes : (s : OldSession) → oldRecord.InRange (s .mesh) → oldTest.recordAnswer s ≡ Accepted
+    → (carried s .answer ≡ Accepted) × (recordAnswer (carried s .session) ≡ Accepted)
+carry-over-passes = carried-passes
+
+-- the recovered route is not dropped: right after it the route query on wavelength 1 gives the answer and the links that the query gave before
+pub carry-over-route : (s : OldSession) → oldRecord.InRange (s .mesh) → oldTest.recordAnswer s ≡ Accepted
+    → routed (carried s .session) 1 ≡ routedAs (oldCalls.routeAnswer s) (oldCalls.routeOf s)
+carry-over-route = route-kept
+
+-- after any list of old calls from a fresh old session on its mesh's plan, the carry-over, and any list of calls of now: all of demand 3 on each wavelength,
+-- where wavelength 1's deliveries since the cut that stands count those before the carry-over, and wavelength 2's start there at 0
+pub demand-three-carried : (m : OldMesh) → oldRecord.InRange m → Planned m → (olds : List oldCalls.Call) (calls : List Call) → CarriedOver m olds calls
+demand-three-carried = demand-carried
+
+-- and the session and the log are those of one list of calls of now from a start on that mesh and its plan: the cut that stands, a delivery on wavelength 1 for
+-- each made since it, and the later calls. So every theorem above on such lists holds across a carry-over
+pub carry-over-replayed : (m : OldMesh) → oldRecord.InRange m → Planned m → (olds : List oldCalls.Call) (calls : List Call) → Replays m olds calls
+carry-over-replayed = replayed-same
+
 -- ---- 01's bench examples marked P
 
 -- every row of the table holds
 pub bench : (r : Row) → List·Memᴰ r table → Holds r
 bench = row-holds
+
+-- by the calls from before wavelength 2: P2, P6 and P7 come out so, row by row, and each call is refused as 01 orders it
+pub old-bench :
+    (map oldRows.outcomeOf oldRows.table ≡ map (λ (r : oldRows.Row). r .outcome) oldRows.table)
+    × (map oldRows.answerTo oldRows.questions ≡ map (λ (q : oldRows.Question). q .answered) oldRows.questions)
+old-bench = computed
