@@ -3,10 +3,12 @@
 -- Assumes the ranges of the old mesh's fields where the mesh of now is tested.
 use Prim.Native.Nat.{ℕ, _<_, _≤_}
 use mathlib.Core.Path.{_≡_, refl, sym, ap, _∙_}
-use mathlib.Core.Bool.{Bool, true, false, not, _||_}
+use mathlib.Core.Bool.{Bool, true, false, not, _||_, cond}
+use mathlib.Core.List.{[]}
 use native.Mathlib.Omega.{arith}
+use lib.Dec.{eqb}
 use borrow.Author.Tests.{leb-false, lt-ltb}
-use Rattle.scan.specs.Test.{not-says, or-false}
+use Rattle.scan.specs.Test.{branch, clash, not-says, or-false}
 use Rattle.scan.specs.Entry.{at}
 use Rattle.mesh.specs.declared.Mesh.{Mesh}
 use Rattle.mesh.specs.declared.Plan.{Plan}
@@ -15,18 +17,29 @@ use Rattle.mesh.specs.declared.Answer.the-variants.{Accepted, Refused}
 use Rattle.mesh.specs.Mesh.{must, andThen, meshAnswer}
 use Rattle.mesh.specs.Arc.{tailOf, headOf}
 use Rattle.mesh.specs.Laws.Answer.{must-accepted, andThen-accepted}
+use Rattle.mesh.specs.Laws.Checked.{passes}
 use Rattle.faults.specs.Faults.{overflows, strays}
-use Rattle.flood.specs.declared.Flood.{Flood}
+use Rattle.flood.specs.Digraph.{Digraph}
+use Rattle.flood.specs.Digraph as failures
+use Rattle.flood.specs.Machine as machine
+use Rattle.flood.specs.Machine.{fresh, Blank}
+use Rattle.flood.specs.Topology.{routeFrom}
+use Rattle.flood.specs.Laws.Begin.{fresh-blank, begin-reached, begin-states, begin-at-most-1}
+use Rattle.wavelengths.specs.declared.Wavelength.the-variants.{First, Second}
+use Rattle.wavelengths.specs.Merge.{begin}
 use Rattle.formed.specs.declared.Cut.{Cut}
+use Rattle.formed.specs.declared.Cut.the-variants as cuts
 use Rattle.formed.specs.Formed.{misplaced, planFault, floodFault, floodsFault, startAnswer}
 use Rattle.formed.specs.Formed as formed
+use Rattle.formed.specs.WellFormed.{FloodFormed}
+use Rattle.formed.specs.Laws.Forming.{flood-says}
 use Rattle.formed.specs.Laws.Fresh.{fresh-answer}
-use Rattle.topology.specs.Backup.{backup}
+use Rattle.topology.specs.Backup.{backup, backupOn}
 use Rattle.refusals.specs.Refusals as refusals
 use Rattle.recovery.specs.declared.Session.{Session}
 use Rattle.recovery.specs.declared.Change.{Change}
 use Rattle.recovery.specs.Formed.{recordAnswer}
-use Rattle.recovery.specs.Calls.{freshOn, zeroSession, cutOn, change, started, afterCut}
+use Rattle.recovery.specs.Calls.{freshOn, zeroSession, cutOn, failureOf, change, started, afterCut, routeOf, routedAs, routed}
 use Rattle.legacy.specs.declared.OldCut.{OldCut}
 use Rattle.legacy.specs.declared.OldCut.the-variants as oldCuts
 use Rattle.legacy.specs.declared.OldSession.{OldSession}
@@ -159,3 +172,63 @@ module _ (s : OldSession) where
   kept-tested a e =
       let t = must-accepted (not (illFormed s || secondFault)) 13 0 Accepted (andThen-accepted (meshAnswer (meshOf (s .mesh))) _ (sym kept-answer ∙ e) .1) .0 in
       rw (a, or-false (illFormed s) secondFault (not-says _ .0 t) .0)
+
+-- ---- the flood that wavelength 2 gets
+
+-- quiet, or just begun at an end of the cut link, which is a node: it is well formed
+module _ (m : Mesh) (p : Plan) (good : meshAnswer m ≡ Accepted) where
+  abbrev arcs : Digraph
+  arcs = backupOn Second m p
+
+  blank : Blank arcs (fresh 256 64)
+  blank = let P = passes m good in fresh-blank arcs 256 64 (P .count-most) (P .nodes-most)
+
+  source-node : (k : ℕ) → k < m .count → arcs .head k < m .nodes
+  source-node k h = let P = passes m good in branch (λ (v : ℕ). v < m .nodes) (eqb (at (p .directions) k) 0) (λ e. P .high-below k h) (λ e. P .low-below k h)
+
+  second-formed : (c : Cut) → misplaced (m .count) c ≡ false → FloodFormed m (secondOf m p c)
+  unfolding begin
+  second-formed cuts.Nothing h = record {
+    states = record { most = λ i l. rw (blank .quiet i) (omega arith); zeros = λ i l b. blank .quiet i };
+    reached = λ v b t. clash t (blank .unreached v);
+  }
+  second-formed (cuts.Link k) h = record {
+    states = record {
+      most = λ i l. omega (arith, begin-at-most-1 arcs (failures.cut arcs k) blank i);
+      zeros = λ i l b. begin-states arcs (failures.cut arcs k) blank (λ i w. m .count ≤ i → w ≡ 0) i (λ a l. absurd (omega (arith, a .0))) (λ n l. refl) l;
+    };
+    reached = λ v b t. rw (begin-reached arcs (failures.cut arcs k) blank t) (source-node k (leb-false (m .count) k h));
+  }
+
+-- where the mesh of now is accepted and the cut stays in place
+second-faultless : (s : OldSession) → meshAnswer (meshOf (s .mesh)) ≡ Accepted → cutFault s ≡ false → secondFault s ≡ false
+second-faultless s good placed =
+    let formed = second-formed (meshOf (s .mesh)) (planOf (s .plan)) good (cutOf (s .cut)) (misplaced-kept (s .mesh .count) (s .cut) ∙ placed) in
+    not-says _ .0 (flood-says (meshOf (s .mesh)) (kept s .second) (passes (meshOf (s .mesh)) good .count-most) .1 formed)
+
+pub kept-accepts : (s : OldSession) → InRange (s .mesh) → old.recordAnswer s ≡ Accepted → recordAnswer (kept s) ≡ Accepted
+kept-accepts s ranges e =
+    let good = mesh-accepts (s .mesh) ranges (mesh-passed s e) in
+    kept-answer s ∙ rw (good, rest-passed s e, second-faultless s good (cut-passed s e))
+
+-- ---- the route query
+
+-- a cut stands as before, and is the same failure
+module _ (g : Digraph) where
+  failure-kept : (c : OldCut) → failureOf g (cutOf c) ≡ oldCalls.failureOf g c
+  failure-kept oldCuts.Nothing = refl
+  failure-kept (oldCuts.Link k) = refl
+
+standing-kept : (c : OldCut) → refusals.standing (cutOf c) ≡ oldCalls.standing c
+standing-kept oldCuts.Nothing = refl
+standing-kept (oldCuts.Link k) = refl
+
+-- the links of the route on wavelength 1
+links-kept : (s : OldSession) → routeOf (kept s) First ≡ oldCalls.routeOf s
+unfolding routeOf oldCalls.routeOf
+links-kept s = λ j. let g = digraph-kept s j in
+    cond (machine.atRest g (floodOf (s .flood))) (routeFrom g (s .mesh .count) (failure-kept g (s .cut) j .source) (s .flood .states)) []
+
+pub route-kept : (s : OldSession) → InRange (s .mesh) → old.recordAnswer s ≡ Accepted → routed (carried s .session) 1 ≡ routedAs (oldCalls.routeAnswer s) (oldCalls.routeOf s)
+unfolding routed refusals.routeAnswer
+route-kept s ranges e = rw (carried-accepted s e, kept-accepts s ranges e, e, standing-kept (s .cut), links-kept s)
