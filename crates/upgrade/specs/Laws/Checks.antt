@@ -3,7 +3,7 @@
 -- which its types ensure.
 use Prim.Native.Nat.{ℕ, _+_, _<_, _≤_}
 use mathlib.Core.Path.{_≡_, refl, sym, ap, _∙_}
-use mathlib.Core.Logic.{⊎-elim}
+use mathlib.Core.Logic.{_≢_, ⊎-elim}
 use mathlib.Core.Bool.{Bool, true, false, _||_}
 use mathlib.Core.List.{List}
 use native.Mathlib.Omega.{arith}
@@ -11,9 +11,9 @@ use native.Mathlib.Decide.{decLt}
 use lib.Dec.{ltb}
 use lib.ListN.{length, length-map, List·getD-map, List·getD-eq-default}
 use lib.Seq.{getD-drop}
-use borrow.Author.Tests.{lt-ltb, le-ltb}
-use Rattle.scan.specs.Test.{clash, known, Says, eq-says, and-says}
-use Rattle.scan.specs.Lowest.{every-says}
+use borrow.Author.Tests.{ltb-false, lt-ltb, le-ltb}
+use Rattle.scan.specs.Test.{clash, known, fails, or-false, Says, eq-says, and-says}
+use Rattle.scan.specs.Lowest.{every-says, every-fails}
 use Rattle.scan.specs.Fill.{tableOf}
 use Rattle.mesh.specs.declared.Answer.{Answer}
 use Rattle.mesh.specs.declared.Answer.the-variants.{Accepted, Refused}
@@ -48,23 +48,32 @@ zero-says l =
     let fields = and-says (and-says (and-says (eq-says (l .low) 0) (eq-says (l .high) 0)) (eq-says (l .length) 0)) (eq-says (l .pair) 0) in
     (λ t. let (((low, high), length), pair) = fields .0 t in λ j. record { low = low j; high = high j; length = length j; pair = pair j }, λ e. rw e)
 
+-- entry i is a link's, or zero
+abbrev rest : OldMesh → ℕ → Bool
+rest m i = ltb i (m .count) || isZero (old.link m i)
+
+-- where not all are zero, one is not
+pub rest-fails : (m : OldMesh) → restZero m ≡ false → (i : ℕ) × (m .count ≤ i) × (old.link m i ≢ zeroLink)
+unfolding restZero
+rest-fails m e =
+    let (i, b, f) = every-fails (rest m) 256 e in
+    let (l, z) = or-false (ltb i (m .count)) (isZero (old.link m i)) f in
+    (i, ltb-false i (m .count) l, fails (zero-says (old.link m i)) z)
+
 module _ (m : OldMesh) (sized : length (m .links) ≡ 256) where
-  -- past the list's end, too
+  -- where all are, so is what stands past the end of the list
   pub rest-says : Says (restZero m) ((i : ℕ) → m .count ≤ i → old.link m i ≡ zeroLink)
   unfolding restZero
   rest-says = (
     λ t i h. elim (decLt i 256) [
-      | yes b ↦ zero-says (old.link m i) .0 (rw (le-ltb i (m .count) h) at (every-says rest 256 .0 t i b))
+      | yes b ↦ zero-says (old.link m i) .0 (rw (le-ltb i (m .count) h) at (every-says (rest m) 256 .0 t i b))
       | no b ↦ List·getD-eq-default (m .links) zeroLink {n = i} (omega arith)
     ],
-    λ z. every-says rest 256 .1 (λ i b. elim (decLt i (m .count)) [
+    λ z. every-says (rest m) 256 .1 (λ i b. elim (decLt i (m .count)) [
       | yes l ↦ rw (lt-ltb i (m .count) l)
       | no l ↦ rw (le-ltb i (m .count) (omega arith)) (zero-says (old.link m i) .1 (z i (omega arith)))
     ]),
   )
-    where
-      rest : ℕ → Bool
-      rest i = ltb i (m .count) || isZero (old.link m i)
 
   -- where they are zero, the entries carried over are
   rest-carried : restZero m ≡ true → parts.restZero (meshOf m) ≡ true
