@@ -51,17 +51,19 @@ use Rattle.upgrade.specs.Laws.Forming.{directionsFault, statesFault, cut
 -- ---- by the answer
 
 module _ (s : OldSession) where
+  -- what a refused start gives
   pub carried-refused : {number place : ℕ} → old.recordAnswer s ≡ Refused number place → carried s ≡ record { session = zeroSession; answer = Refused number place }
   unfolding carried
   carried-refused e = ap (λ (a : Answer). change a zeroSession (kept s)) e
 
+  -- what is kept
   pub carried-accepted : old.recordAnswer s ≡ Accepted → carried s ≡ record { session = kept s; answer = Accepted }
   unfolding carried
   carried-accepted e = ap (λ (a : Answer). change a zeroSession (kept s)) e
 
 -- ---- the start and the cut once more
 
--- on a fresh session the cut of a link is accepted
+-- on a fresh session the cut of a link is accepted: 12 passes, and 22 does since no cut stands
 cut-fresh : (m : Mesh) (p : Plan) (k : ℕ) → startAnswer m p ≡ Accepted → k < m .count → afterCut (freshOn m p) k .session ≡ cutOn (freshOn m p) k
 unfolding afterCut refusals.cutAnswer
 cut-fresh m p k e h = rw (fresh-answer m p ∙ e, lt-ltb k (m .count) h)
@@ -90,6 +92,7 @@ module _ (s : OldSession) (ranges : InRange (s .mesh)) (e : old.recordAnswer s �
   abbrev withOld : Session → Session
   withOld t = record { mesh = t .mesh; plan = t .plan; cut = t .cut; first = floodOf (s .flood); second = t .second }
 
+  -- what is kept is a start, the cut that stands, and then the old flood on wavelength 1
   pub carried-again : let t = cutAgain (started (meshOf (s .mesh)) (planOf (s .plan)) .session) (s .cut) in
       _≡_ {A = Session} (record { mesh = t .mesh; plan = t .plan; cut = t .cut; first = floodOf (s .flood); second = t .second }) (kept s)
   carried-again = ap (λ (r : Change). withOld (cutAgain (r .session) (s .cut))) start-fresh ∙ again (s .cut) (formed-before .cut)
@@ -128,6 +131,7 @@ module _ (s : OldSession) where
       rw (misplaced-kept (s .mesh .count) (s .cut))
       (at-once (meshAnswer (meshOf (s .mesh))) (directionsFault s) (statesFault s) (cutFault s) (reachedFault s) secondFault)
 
+  -- where it passes and the old mesh is accepted, the old record passed its test
   pub kept-tested : old.meshAnswer (s .mesh) ≡ Accepted → recordAnswer (kept s) ≡ Accepted → old.recordAnswer s ≡ Accepted
   unfolding old.recordAnswer
   kept-tested a e =
@@ -167,6 +171,7 @@ module _ (s : OldSession) (ranges : InRange (s .mesh)) (e : old.recordAnswer s �
       not-says _ .0 (flood-says (meshOf (s .mesh)) (kept s .second) few .1
       (second-formed (meshOf (s .mesh)) (planOf (s .plan)) good (s .cut) (formed-before s ranges e .cut)))
 
+  -- where the old record passed its test, what is kept passes that of now
   pub kept-accepts : recordAnswer (kept s) ≡ Accepted
   kept-accepts = kept-answer s ∙ rw (accepted-now s ranges e, record-passed s e .1, second-faultless)
 
@@ -193,12 +198,14 @@ standing-kept (oldCuts.Link k) = refl
 -- ---- the route query on wavelength 1
 
 module _ (s : OldSession) where
+  -- its links
   links-kept : routeOf (kept s) First ≡ oldCalls.routeOf s
   unfolding routeOf oldCalls.routeOf
   links-kept = λ j.
       let g = digraph-kept s j in
       cond (machine.atRest g (floodOf (s .flood))) (routeFrom g (s .mesh .count) (failure-kept g (s .cut) j .source) (s .flood .states)) []
 
+  -- right after the carry-over: its answer and its links are those of the old session
   pub route-kept : InRange (s .mesh) → old.recordAnswer s ≡ Accepted → routed (carried s .session) 1 ≡ routedAs (oldCalls.routeAnswer s) (oldCalls.routeOf s)
   unfolding routed refusals.routeAnswer
   route-kept ranges e = rw (carried-accepted s e, kept-accepts s ranges e, e, standing-kept (s .cut), links-kept)
