@@ -61,6 +61,15 @@ module _ (s : OldSession) where
   unfolding carried
   carried-accepted e = ap (λ (a : Answer). change a zeroSession (kept s)) e
 
+  -- every refused start gives the same session
+  pub refused-as-start : {number place : ℕ} → old.recordAnswer s ≡ Refused number place
+      → (carried s .answer ≡ Refused number place)
+      × ((m : Mesh) (p : Plan) (n q : ℕ) → startAnswer m p ≡ Refused n q → carried s .session ≡ started m p .session)
+  unfolding started
+  refused-as-start e =
+      let c = carried-refused e in
+      (ap (λ (r : Change). r .answer) c, λ m p n q d. ap (λ (r : Change). r .session) c ∙ sym (ap (λ (a : Answer). change a zeroSession (freshOn m p) .session) d))
+
 -- ---- the start and the cut once more
 
 -- on a fresh session the cut of a link is accepted: 12 passes, and 22 does since no cut stands
@@ -174,6 +183,10 @@ module _ (s : OldSession) (ranges : InRange (s .mesh)) (e : old.recordAnswer s �
   -- where the old record passed its test, what is kept passes that of now
   pub kept-accepts : recordAnswer (kept s) ≡ Accepted
   kept-accepts = kept-answer s ∙ rw (accepted-now s ranges e, record-passed s e .1, second-faultless)
+
+  -- so the carry-over is accepted, and gives a session that passes its record test
+  pub carried-passes : (carried s .answer ≡ Accepted) × (recordAnswer (carried s .session) ≡ Accepted)
+  carried-passes = rw (carried-accepted s e) (refl, kept-accepts)
 
 -- ---- the back-up digraph
 
