@@ -1,6 +1,5 @@
 // A session from before wavelength 2 becomes a session of now (02, request 3).
 ghost use mathlib.Core.Path.{_≡_};
-ghost use lib.ListN.{replicate};
 ghost use Rattle.recovery.specs.Calls.{zeroSession};
 ghost use Rattle.upgrade.specs.Carried.{linkOf, meshOf, planOf, floodOf, cutAgain, carried};
 use flood::Flood;
@@ -95,7 +94,8 @@ pub fn carry_over(old: OldSession) -> Change
         return Change { session, answer };
     };
     let started = Session::start(mesh_of(old.mesh), plan_of(old.plan));
-    let mut session = cut_again(started.session, old.cut);
+    let cut = old.cut;
+    let mut session = cut_again(started.session, cut);
     session.first = flood_of(old.flood);
     Change { session, answer }
 }
