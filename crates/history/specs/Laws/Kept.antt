@@ -56,6 +56,12 @@ acted-accepted a b v = branch IsAccepted (eqb v 2) (λ t. refl) (λ t. branch Is
     IsAccepted : Delivered → Type 0
     IsAccepted d = accepted d ≡ true
 
+-- one delivery, which its flood accepts
+pub one-accepted : (g : Wavelength → Digraph) (c : Wavelength → Failure) (j : ℕ) (w : Wavelength) (f : Floods)
+    → machine.accepts (g w) j (on w f) ≡ true → merge.accepted g c (turn j w ∷ []) f ≡ 1
+unfolding merge.accepted merge.accepts merge.busy
+one-accepted g c j w f a = rw a
+
 -- the cut of link k stands, with these floods
 abbrev pub cutSession : Mesh → Plan → ℕ → Floods → Session
 cutSession m p k f = sessionOf m p (Link k) f
@@ -107,12 +113,6 @@ module _ (m : Mesh) (p : Plan) where
 
   -- ---- further deliveries
 
-  -- one that its flood accepts
-  pub one-accepted : (k j : ℕ) (w : Wavelength) (f : Floods) → machine.accepts (graphs m p w) j (on w f) ≡ true
-      → merge.accepted (graphs m p) (lost m p k) (turn j w ∷ []) f ≡ 1
-  unfolding merge.accepted merge.accepts merge.busy
-  one-accepted k j w f a = rw a
-
   -- any that are accepted in turn
   pub since-more : {k : ℕ} {ts : List Turn} → Since k ts → (us : List Turn)
       → merge.accepted (graphs m p) (lost m p k) us (played m p k ts) ≡ length us → Since k (ts ++ us)
@@ -121,16 +121,16 @@ module _ (m : Mesh) (p : Plan) where
     all = rw (accepted-append (graphs m p) (lost m p k) ts us (begun m p k), length-append ts us) (omega (arith, q .all));
   }
 
-  under-more : {k : ℕ} {ts : List Turn} → Since k ts → (us : List Turn)
-      → merge.accepted (graphs m p) (lost m p k) us (played m p k ts) ≡ length us
-      → Kept (cutSession m p k (play (graphs m p) (lost m p k) us (played m p k ts))) (record { cut = Link k; made = ts ++ us })
-  under-more {k} {ts} q us e =
+  pub more-kept : {s : Session} {l : Log} → Kept s l → standing (s .cut) ≡ true → (us : List Turn) → merge.accepted (digraph s) (failure s) us (floods s) ≡ length us
+      → Kept (withFloods s (play (digraph s) (failure s) us (floods s))) (record { cut = l .cut; made = l .made ++ us })
+  more-kept free e us a = clash e refl
+  more-kept (under {k} {ts} q) e us a =
       subst (λ (f : Floods). Kept (cutSession m p k f) (record { cut = Link k; made = ts ++ us }))
-      (play-append (graphs m p) (lost m p k) ts us (begun m p k)) (under (since-more q us e))
+      (play-append (graphs m p) (lost m p k) ts us (begun m p k)) (under (since-more q us a))
 
   -- ---- an accepted call
 
-  cut-kept : {s : Session} {l : Log} → Kept s l → (k : ℕ) → k < s .mesh .count → standing (s .cut) ≡ false → Kept (cutOn s k) (record { cut = Link k; made = [] })
+  pub cut-kept : {s : Session} {l : Log} → Kept s l → (k : ℕ) → k < s .mesh .count → standing (s .cut) ≡ false → Kept (cutOn s k) (record { cut = Link k; made = [] })
   unfolding play
   cut-kept free k h e = under (since-cut h)
   cut-kept (under q) k h e = clash refl e
@@ -138,8 +138,7 @@ module _ (m : Mesh) (p : Plan) where
   deliver-kept : {s : Session} {l : Log} → Kept s l → (j : ℕ) (w : Wavelength) → standing (s .cut) ≡ true → machine.accepts (digraph s w) j (on w (floods s)) ≡ true
       → Kept (withFloods s (step (digraph s) (failure s) (turn j w) (floods s))) (record { cut = l .cut; made = l .made ++ (turn j w ∷ []) })
   unfolding play
-  deliver-kept free j w e a = clash e refl
-  deliver-kept (under {k} {ts} q) j w e a = under-more q (turn j w ∷ []) (one-accepted k j w (played m p k ts) a)
+  deliver-kept {s} K j w e a = more-kept K e (turn j w ∷ []) (one-accepted (digraph s) (failure s) j w (floods s) a)
 
   run-kept : {s : Session} {l : Log} → Kept s l → Sized s → (n : ℕ) → runAnswer s ≡ Accepted
       → Kept (withFloods s (merge.run (digraph s) (failure s) n (floods s) .floods)) (record { cut = l .cut; made = l .made ++ runMade g (s .cut) n (seen s) })
@@ -149,9 +148,9 @@ module _ (m : Mesh) (p : Plan) where
       let us : List Turn = merge.order (graphs m p) (lost m p k) n (played m p k ts) in
       subst (λ (made : List Turn). Kept (cutSession m p k (play (graphs m p) (lost m p k) us (played m p k ts))) (record { cut = Link k; made = ts ++ made }))
       (run-made s (run-accepted s e .0) z n e)
-      (under-more q us (order-accepted (graphs m p) (lost m p k) n (played m p k ts)))
+      (more-kept (under q) refl us (order-accepted (graphs m p) (lost m p k) n (played m p k ts)))
 
-  mend-kept : {s : Session} {l : Log} → Kept s l → Kept (freshOn (s .mesh) (s .plan)) emptyLog
+  pub mend-kept : {s : Session} {l : Log} → Kept s l → Kept (freshOn (s .mesh) (s .plan)) emptyLog
   mend-kept free = free
   mend-kept (under q) = free
 

@@ -153,7 +153,7 @@ module _ (m : Mesh) (sized : length (m .links) ≡ 256) (good : planned m .answe
       us = ts ++ (turn j w ∷ [])
 
       single-since : Since m p k us
-      single-since = since-more m p q (turn j w ∷ []) (one-accepted m p k j w (played m p k ts) a)
+      single-since = since-more m p q (turn j w ∷ []) (one-accepted (graphs m p) (lost m p k) j w (played m p k ts) a)
 
       single-accepted : deliverAnswer s j u ≡ Accepted
       single-accepted = deliver-accepts s j u (kept-record m good sized (under q)) named refl a
