@@ -57,7 +57,7 @@ after-mesh-plan (c ∷ cs) s =
     let (m₀, p₀) = next-mesh-plan c s in
     (m ∙ m₀, p ∙ p₀)
 
-pub after-sized : (calls : List Call) (s : Session) → Sized s → Sized (after calls s)
+after-sized : (calls : List Call) (s : Session) → Sized s → Sized (after calls s)
 unfolding after
 after-sized [] s z = z
 after-sized (c ∷ cs) s z = after-sized cs (next c s) (next-sized c s z)

@@ -43,12 +43,10 @@ use Rattle.recovery.specs.Laws.Tested.{deliver-accepts}
 use Rattle.history.specs.History.{Call, by-value, cut, deliver, run, reply, next, after, answers}
 use Rattle.history.specs.Rules.{Now, ruleNext}
 use Rattle.history.specs.Log.{Log, emptyLog, madeOn, madeBy, note, logged}
-use Rattle.history.specs.Demand.{Sized, seen, digraphOn, ended, log, callsOn, alone, Undisturbed, RunsAlone}
+use Rattle.history.specs.Demand.{seen, digraphOn, ended, log, callsOn, alone, Undisturbed, RunsAlone}
 use Rattle.history.specs.Laws.RuledCalls.{run-made}
-use Rattle.history.specs.Laws.RuledNext.{fresh-sized}
-use Rattle.history.specs.Laws.Ruled.{after-sized}
 use Rattle.history.specs.Laws.Kept.{cutSession, graphs, lost, begun, played, Since, Kept, free, under}
-use Rattle.history.specs.Laws.Kept.{acted-accepted, since-cut, one-accepted, since-more, played-own, accepted-own}
+use Rattle.history.specs.Laws.Kept.{acted-accepted, since-cut, kept-sized, one-accepted, since-more, played-own, accepted-own}
 use Rattle.history.specs.Laws.Started.{from-start, kept-record, ended-kept, ended-more}
 
 -- the log under the cut of link k, after the deliveries ts
@@ -211,9 +209,6 @@ module _ (m : Mesh) (sized : length (m .links) ≡ 256) (good : planned m .answe
 
   -- ---- a run
 
-  pub ended-sized : (calls : List Call) → Sized (ended m calls)
-  ended-sized calls = from-start m good (λ s n. Sized (after calls s)) (after-sized calls (freshOn m p) (fresh-sized m p))
-
   -- under a cut it is accepted, and its deliveries are those of the floods' run
   module _ {k : ℕ} {ts : List Turn} (q : Since m p k ts) (a : ℕ) where
     abbrev t : Session
@@ -226,22 +221,22 @@ module _ (m : Mesh) (sized : length (m .links) ≡ 256) (good : planned m .answe
     pub run-is : afterRun t a ≡ runAs Accepted t (merge.run (graphs m p) (lost m p k) a (played m p k ts))
     run-is = run-answered t a run-passes
 
-    pub run-order : Sized t → runTurns m t a ≡ order (graphs m p) (lost m p k) a (played m p k ts)
-    run-order z = ap (noted m t a) run-is ∙ sym (run-made t (kept-record m good sized (under q)) z a run-passes)
+    pub run-order : runTurns m t a ≡ order (graphs m p) (lost m p k) a (played m p k ts)
+    run-order = ap (noted m t a) run-is ∙ sym (run-made t (kept-record m good sized (under q)) (kept-sized m p (under q)) a run-passes)
 
   module _ (w : Wavelength) (a : ℕ) where
     -- the deliveries us are, on wavelength w, those of its own run
     abbrev Own : Session → List Turn → Type 0
     Own s us = (n : ℕ) × (n ≤ a) × (linksOn w us ≡ machine.order (digraph s w) (failure s w) n (on w (floods s)))
 
-    run-own : {s : Session} {l : Log} → Kept m p s l → Sized s → Own s (runTurns m s a)
+    run-own : {s : Session} {l : Log} → Kept m p s l → Own s (runTurns m s a)
     unfolding linksOn machine.order refusals.runAnswer
-    run-own {s} free z =
+    run-own {s} free =
         let refused : runAnswer s ≡ Refused 23 0 = rw (kept-record m good sized free) in
         subst (Own s) (sym (ap (noted m s a) (run-answered s a refused))) (0, omega arith, refl)
-    run-own {s} (under {k} {ts} q) z =
+    run-own {s} (under {k} {ts} q) =
         let us : List Turn = order (graphs m p) (lost m p k) a (played m p k ts) in
-        subst (Own s) (sym (run-order q a z))
+        subst (Own s) (sym (run-order q a))
         (length (linksOn w us), share-within (graphs m p) (lost m p k) (played m p k ts) w a, order-on (graphs m p) (lost m p k) w a (played m p k ts))
 
     -- after the calls they follow those made before
@@ -262,7 +257,7 @@ undisturbed m sized good calls w =
 
 pub runs-alone : (m : Mesh) → length (m .links) ≡ 256 → planned m .answer ≡ Accepted → (calls : List Call) (w : Wavelength) (a : ℕ) → RunsAlone m calls w a
 runs-alone m sized good calls w a =
-    let (n, most, own) = run-own m sized good w a (ended-kept m good sized calls) (ended-sized m sized good calls) in
+    let (n, most, own) = run-own m sized good w a (ended-kept m good sized calls) in
     record {
       n = n;
       most = most;
