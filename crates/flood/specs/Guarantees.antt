@@ -80,7 +80,7 @@ module _ (g : Digraph) (c : Failure) (sound : Sound g c) {f : Flood} (blank : Bl
 
     -- the links that are not quiet are those that were ever offered
     pub ever-offered : (i : ℕ) → (0 < at (now .states) i) ↔ Ever g c i js (begin g c f)
-    ever-offered i = ever.ever-offered g c sound js (begin-progress g c sound blank .room) i (beginning.begin-at-most-1 g c sound blank i)
+    ever-offered i = ever.ever-offered g c sound js (begin-progress g c sound blank .room) i (beginning.begin-at-most-1 g c blank i)
 
     -- ---- how many deliveries
 

@@ -149,7 +149,7 @@ module _ (g : Digraph) (c : Failure) where
         still = run-rests g c sound (2 * usable g c) q₁ (omega arith)
 
         new : (v : ℕ) → List·Memᴰ v (map head p) → has (f₀ .reached) v ≡ false
-        new v o = ⊎-elim (λ r. absurd (path .simple .0 v o (sym (begin-reached g c sound blank r)))) (λ n. n) (known (has (f₀ .reached) v))
+        new v o = ⊎-elim (λ r. absurd (path .simple .0 v o (sym (begin-reached g c blank r)))) (λ n. n) (known (has (f₀ .reached) v))
 
         taken : Taken g (at (f₁ .states)) p
         taken i o = (path .free i o .0, path-taken (path .chain) (path .simple) (path .free) q₀ (q₀ .inv .source-reached) new .0 i o)

@@ -40,16 +40,16 @@ module _ (g : Digraph) (c : Failure) where
     begin-progress {f} blank =
         record {
           room = frame-room g (begin-frame g c f) (blank .room);
-          inv = begin-inv g c sound blank;
+          inv = begin-inv g c blank sound;
           small = λ i. omega (arith, few i);
           past-links = λ i h. begin-frame g c f .states .past i h ∙ blank .quiet i;
-          past-nodes = λ v r. rw (begin-reached g c sound blank r) (sound .source<);
-          walked = λ v r. rw (begin-reached g c sound blank r) here;
+          past-nodes = λ v r. rw (begin-reached g c blank r) (sound .source<);
+          walked = λ v r. rw (begin-reached g c blank r) here;
           spent = omega (arith, total-same (λ i. weight (at (begin g c f .states) i)) (λ i. 0) links (λ i l. idle i), total-const 0 links);
         }
       where
         few : (i : ℕ) → at (begin g c f .states) i ≤ 1
-        few = begin-at-most-1 g c sound blank
+        few = begin-at-most-1 g c blank
 
         idle : (i : ℕ) → weight (at (begin g c f .states) i) ≡ 0
         idle i = let q = few i in omega arith

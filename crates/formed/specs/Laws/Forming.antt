@@ -46,7 +46,7 @@ module _ (links top i v : ℕ) where
 
 -- the entries of the plan, or the states
 module _ (links top : ℕ) (entries : List ℕ) (few : links ≤ 256) where
-  bounded-says : Says (not (overflows links top entries)) (Bounded links top entries)
+  pub bounded-says : Says (not (overflows links top entries)) (Bounded links top entries)
   unfolding overflows isOver
   bounded-says = (λ t. to (any-fails over 256 (not-says _ .0 t)), λ B. not-says _ .1 (any-none over 256 256 (from B) (omega arith)))
     where
@@ -72,7 +72,7 @@ cut-says m (cuts.Link k) = (
   λ h. not-says _ .1 (lt-leb (m .count) k (h k refl)),
 )
 
-strays-says : (n : ℕ) (reached : List Bool) → Says (not (strays n reached)) ((v : ℕ) → v < 64 → has reached v ≡ true → v < n)
+pub strays-says : (n : ℕ) (reached : List Bool) → Says (not (strays n reached)) ((v : ℕ) → v < 64 → has reached v ≡ true → v < n)
 unfolding strays isStray
 strays-says n reached = (
   λ t v b r. elim (decLt v n) [ yes l ↦ l | no l ↦ clash (stray v .1 (omega arith, r)) (any-fails p 64 (not-says _ .0 t) v b) ],
@@ -92,7 +92,7 @@ module _ (m : Mesh) (f : Flood) (few : m .count ≤ 256) where
       nor-says (overflows (m .count) 4 (f .states)) (strays (m .nodes) (f .reached))
       (bounded-says (m .count) 4 (f .states) few) (strays-says (m .nodes) (f .reached))
 
-  flood-says : Says (not (floodFault m f)) (FloodFormed m f)
+  pub flood-says : Says (not (floodFault m f)) (FloodFormed m f)
   flood-says = (λ t. let (a, b) = flood-parts .0 t in record { states = a; reached = b }, λ F. flood-parts .1 (F .states, F .reached))
 
 -- the floods on the two wavelengths

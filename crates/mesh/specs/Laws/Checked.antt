@@ -50,7 +50,7 @@ rises-zero : (l : Link) → l .low < l .high → Rises zeroLink l
 rises-zero l h = elim (decLt 0 (l .low)) [ yes b ↦ inl b | no b ↦ inr (omega arith, omega arith) ]
 
 -- no link both has a fault and has none
-no-fault : (n : ℕ) (p l : Link) (number : ℕ) → Faultless n p l → LinkFault n p l number → ⊥
+pub no-fault : (n : ℕ) (p l : Link) (number : ℕ) → Faultless n p l → LinkFault n p l number → ⊥
 no-fault n p l number (j, r) (low-not-below-high a) = omega arith
 no-fault n p l number (j, r) (end-not-below-nodes a f) = f (omega arith, j .inside)
 no-fault n p l number (j, r) (pair-not-after a b f) = f r

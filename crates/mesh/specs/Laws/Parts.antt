@@ -85,7 +85,8 @@ module _ (l : Link) (byte : l .high < 256) where
   ends-high : highOf (endsOf l) ≡ l .high
   ends-high = omega arith
 
-module _ (m : Mesh) (ranges : InRange m) where
+-- with 256 entries and a high end of one byte in each
+module _ (m : Mesh) (sized : length (m .links) ≡ 256) (bytes : (i : ℕ) → link m i .high < 256) where
   module _ (few : m .count ≤ 256) where
     -- the entry of link i, and the one before it
     at-ends : (i : ℕ) → i < m .count → at (endsIn m) i ≡ endsOf (link m i)
@@ -97,14 +98,14 @@ module _ (m : Mesh) (ranges : InRange m) where
 
     previous-byte : (i : ℕ) → previous m i .high < 256
     previous-byte zero = lit< tt
-    previous-byte (suc i) = ranges .links i .high
+    previous-byte (suc i) = bytes i
 
     entry-is : (i : ℕ) → i < m .count → entryAnswer (m .nodes) (endsIn m) i ≡ linkAnswer (m .nodes) (previous m i) (link m i) i
     entry-is i h =
         let p : Link = previous m i in
         let l : Link = link m i in
         let q : p .high < 256 = previous-byte i in
-        let b : l .high < 256 = ranges .links i .high in
+        let b : l .high < 256 = bytes i in
         rw (at-previous i h, at-ends i h) (λ j. endsAnswer (m .nodes) (ends-low p q j) (ends-high p q j) (ends-low l b j) (ends-high l b j) i)
 
     entries-are : (i d : ℕ) → i + d ≡ m .count
@@ -112,14 +113,13 @@ module _ (m : Mesh) (ranges : InRange m) where
     unfolding entriesAnswer
     entries-are i zero e = sym (links-end (m .nodes) (previous m i) (m .links) (m .count) i (omega arith))
     entries-are i (suc d) e =
-        let sized : length (m .links) ≡ 256 = ranges .entries in
         rw (entry-is i (omega arith), entries-are (suc i) d (omega arith))
         (sym (links-step (m .nodes) (previous m i) (m .links) (m .count) i (omega arith) (omega arith) ∙ rw (add-one i)))
 
   -- the mesh checks on a mesh's parts
-  pub parts-answer : partsAnswer (m .nodes) (m .count) (restZero m) (endsIn m) ≡ meshAnswer m
+  pub bytes-answer : partsAnswer (m .nodes) (m .count) (restZero m) (endsIn m) ≡ meshAnswer m
   unfolding partsAnswer meshAnswer
-  parts-answer = go (countFits (m .count)) refl
+  bytes-answer = go (countFits (m .count)) refl
     where
       -- the checks with these answers to the number of links and to the links
       checks : Bool → Answer → Answer
@@ -129,3 +129,6 @@ module _ (m : Mesh) (ranges : InRange m) where
           → checks t (entriesAnswer (m .nodes) (endsIn m) 0 (m .count)) ≡ checks t (linksAnswer (m .nodes) zeroLink 0 (take (m .count) (m .links)))
       go true e = ap (checks true) (entries-are (leb-true _ _ e) 0 (m .count) (omega arith))
       go false e = refl
+
+pub parts-answer : (m : Mesh) → InRange m → partsAnswer (m .nodes) (m .count) (restZero m) (endsIn m) ≡ meshAnswer m
+parts-answer m ranges = bytes-answer m (ranges .entries) (λ i. ranges .links i .high)

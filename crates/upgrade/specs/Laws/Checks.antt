@@ -1,0 +1,108 @@
+-- The mesh checks of a mesh from before a change are those of the mesh that it becomes, with its own test of the entries past the last link after them. All
+-- that is asked of a carried-over link is that it keeps both ends, and that the zero link stays the zero link. Assumes the ranges of the old mesh's fields,
+-- which its types ensure.
+use Prim.Native.Nat.{ℕ, _+_, _<_, _≤_}
+use mathlib.Core.Path.{_≡_, refl, sym, ap, _∙_}
+use mathlib.Core.Logic.{⊎-elim}
+use mathlib.Core.Bool.{Bool, true, false, _||_}
+use mathlib.Core.List.{List}
+use native.Mathlib.Omega.{arith}
+use native.Mathlib.Decide.{decLt}
+use lib.Dec.{ltb}
+use lib.ListN.{length, length-map, List·getD-map, List·getD-eq-default}
+use lib.Seq.{getD-drop}
+use borrow.Author.Tests.{lt-ltb, le-ltb}
+use Rattle.scan.specs.Test.{clash, known, Says, eq-says, and-says}
+use Rattle.scan.specs.Lowest.{every-says}
+use Rattle.scan.specs.Fill.{tableOf}
+use Rattle.mesh.specs.declared.Answer.{Answer}
+use Rattle.mesh.specs.declared.Answer.the-variants.{Accepted, Refused}
+use Rattle.mesh.specs.Mesh.{must, andThen, nodesFit, countFits, meshAnswer}
+use Rattle.mesh.specs.WellFormed.{link}
+use Rattle.mesh.specs.Parts as parts
+use Rattle.mesh.specs.Parts.{endsIn, entriesAnswer, partsAnswer}
+use Rattle.mesh.specs.Laws.Answer.{andThen-accepted}
+use Rattle.mesh.specs.Laws.Parts.{bytes-answer}
+use Rattle.mesh.specs.Laws.Zeros.{one-not-zero}
+use Rattle.legacy.specs.declared.OldLink.{OldLink}
+use Rattle.legacy.specs.declared.OldMesh.{OldMesh}
+use Rattle.legacy.specs.Record as old
+use Rattle.legacy.specs.Record.{zeroLink, isZero, restZero}
+use Rattle.legacy.specs.WellFormed.{InRange}
+use Rattle.upgrade.specs.Carried.{linkOf, meshOf}
+
+-- ---- the links
+
+-- each entry is carried over; the zero link past the end of the list too
+pub link-carried : (m : OldMesh) (i : ℕ) → link (meshOf m) i ≡ linkOf (old.link m i)
+link-carried m i = List·getD-map linkOf (m .links) i zeroLink
+
+-- so the ends stay the same
+ends-carried : (m : OldMesh) → endsIn (meshOf m) ≡ old.endsIn m
+ends-carried m = λ j. tableOf (λ i. parts.endsOf (link-carried m i j)) (m .count)
+
+-- ---- the entries past the last link
+
+pub zero-says : (l : OldLink) → Says (isZero l) (l ≡ zeroLink)
+zero-says l =
+    let fields = and-says (and-says (and-says (eq-says (l .low) 0) (eq-says (l .high) 0)) (eq-says (l .length) 0)) (eq-says (l .pair) 0) in
+    (λ t. let (((low, high), length), pair) = fields .0 t in λ j. record { low = low j; high = high j; length = length j; pair = pair j }, λ e. rw e)
+
+module _ (m : OldMesh) (sized : length (m .links) ≡ 256) where
+  -- past the list's end, too
+  pub rest-says : Says (restZero m) ((i : ℕ) → m .count ≤ i → old.link m i ≡ zeroLink)
+  unfolding restZero
+  rest-says = (
+    λ t i h. elim (decLt i 256) [
+      | yes b ↦ zero-says (old.link m i) .0 (rw (le-ltb i (m .count) h) at (every-says rest 256 .0 t i b))
+      | no b ↦ List·getD-eq-default (m .links) zeroLink {n = i} (omega arith)
+    ],
+    λ z. every-says rest 256 .1 (λ i b. elim (decLt i (m .count)) [
+      | yes l ↦ rw (lt-ltb i (m .count) l)
+      | no l ↦ rw (le-ltb i (m .count) (omega arith)) (zero-says (old.link m i) .1 (z i (omega arith)))
+    ]),
+  )
+    where
+      rest : ℕ → Bool
+      rest i = ltb i (m .count) || isZero (old.link m i)
+
+  -- where they are zero, the entries carried over are
+  rest-carried : restZero m ≡ true → parts.restZero (meshOf m) ≡ true
+  rest-carried t =
+      ⊎-elim (λ e. e)
+      (λ e. let (i, n) = one-not-zero _ e in absurd (n (rw getD-drop (link-carried m (m .count + i) ∙ ap linkOf (rest-says .0 t (m .count + i) (omega arith))))))
+      (known (parts.restZero (meshOf m)))
+
+-- ---- the checks
+
+-- a test of these entries that passes only where another does may come after the checks with the other
+module _ (n k : ℕ) (ends : List ℕ) where
+  checks-after : (s r : Bool) → (s ≡ true → r ≡ true) → partsAnswer n k s ends ≡ andThen (partsAnswer n k r ends) (must s 13 0 Accepted)
+  unfolding partsAnswer
+  checks-after = after (nodesFit n) (countFits k) (entriesAnswer n ends 0 k)
+    where
+      checks : Bool → Bool → Answer → Bool → Answer
+      checks fit few a s = must fit 3 0 (must few 4 0 (andThen a (must s 13 0 Accepted)))
+
+      after : (fit few : Bool) (a : Answer) (s r : Bool) → (s ≡ true → r ≡ true) → checks fit few a s ≡ andThen (checks fit few a r) (must s 13 0 Accepted)
+      after false few a s r h = refl
+      after true false a s r h = refl
+      after true true (Refused number place) s r h = refl
+      after true true Accepted s true h = refl
+      after true true Accepted true false h = clash (h refl) refl
+      after true true Accepted false false h = refl
+
+module _ (m : OldMesh) (ranges : InRange m) where
+  parts-carried : partsAnswer (m .nodes) (m .count) (parts.restZero (meshOf m)) (old.endsIn m) ≡ meshAnswer (meshOf m)
+  parts-carried =
+      ap (partsAnswer (m .nodes) (m .count) (parts.restZero (meshOf m))) (sym (ends-carried m))
+      ∙ bytes-answer (meshOf m) (length-map (m .links) linkOf ∙ ranges .entries) (λ i. rw (link-carried m i) (ranges .links i .high))
+
+  pub mesh-shares : old.meshAnswer m ≡ andThen (meshAnswer (meshOf m)) (must (restZero m) 13 0 Accepted)
+  unfolding old.meshAnswer
+  mesh-shares =
+      checks-after (m .nodes) (m .count) (old.endsIn m) (restZero m) (parts.restZero (meshOf m)) (rest-carried m (ranges .entries))
+      ∙ ap (λ (a : Answer). andThen a (must (restZero m) 13 0 Accepted)) parts-carried
+
+  pub mesh-accepts : old.meshAnswer m ≡ Accepted → meshAnswer (meshOf m) ≡ Accepted
+  mesh-accepts e = andThen-accepted (meshAnswer (meshOf m)) _ (sym mesh-shares ∙ e) .0
