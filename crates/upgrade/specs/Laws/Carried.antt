@@ -215,11 +215,11 @@ kept-accepts s ranges e =
 
 -- a cut stands as before, and is the same failure
 module _ (g : Digraph) where
-  failure-kept : (c : OldCut) → failureOf g (cutOf c) ≡ oldCalls.failureOf g c
+  pub failure-kept : (c : OldCut) → failureOf g (cutOf c) ≡ oldCalls.failureOf g c
   failure-kept oldCuts.Nothing = refl
   failure-kept (oldCuts.Link k) = refl
 
-standing-kept : (c : OldCut) → refusals.standing (cutOf c) ≡ oldCalls.standing c
+pub standing-kept : (c : OldCut) → refusals.standing (cutOf c) ≡ oldCalls.standing c
 standing-kept oldCuts.Nothing = refl
 standing-kept (oldCuts.Link k) = refl
 
