@@ -1,5 +1,5 @@
 -- What every old call keeps: the session that a carry-over makes of the old one is as the calls of now keep it, with the deliveries of the old log on
--- wavelength 1. For an old cut is, on the session carried over, the cut of now, and old deliveries are deliveries on wavelength 1. Assumes nothing.
+-- wavelength 1. An old cut is the cut of now on that session, and old deliveries are deliveries on its wavelength 1. Assumes nothing.
 use Prim.Native.Nat.{ℕ, _<_}
 use mathlib.Core.Path.{_≡_, refl, sym, ap, subst, subst₂, _∙_}
 use mathlib.Core.Bool.{true, false, not}
@@ -91,8 +91,8 @@ module _ (s : OldSession) where
   unfolding machine.accepted machine.accepts
   deliver-accepted k e =
       let (l, a) = must-accepted (ltb k (s .mesh .count)) 12 k _ (andThen-accepted (recordAnswer s) _ e .1) in
-      let (c, u) = must-accepted (old.standing (s .cut)) 23 k _ a in
-      (c, rw (l, must-accepted (machine.underWay (at (s .flood .states) k)) 24 k Accepted u .0))
+      let (stands, u) = must-accepted (old.standing (s .cut)) 23 k _ a in
+      (stands, rw (l, must-accepted (machine.underWay (at (s .flood .states) k)) 24 k Accepted u .0))
 
   run-accepted : (a : ℕ) → old.answer (run a) s ≡ Accepted → old.standing (s .cut) ≡ true
   run-accepted a e = must-accepted (old.standing (s .cut)) 23 0 Accepted (andThen-accepted (recordAnswer s) _ e .1) .0

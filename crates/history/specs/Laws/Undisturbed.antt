@@ -1,6 +1,6 @@
 -- The wavelengths do not disturb each other: the cut and the deliveries on one wavelength, made alone, are all accepted and lead to the same flood there,
--- since a flood is what its own deliveries make; and what a run makes on one wavelength is what that wavelength's own run makes. Assumes 256 entries in the
--- mesh's list of links.
+-- since a flood is what its own deliveries make, and to the same session where there were no others; and what a run makes on one wavelength is what that
+-- wavelength's own run makes. Assumes 256 entries in the mesh's list of links.
 use Prim.Native.Nat.{ℕ, _<_, _≤_}
 use mathlib.Core.Path.{_≡_, refl, sym, ap, ap₂, subst, _∙_}
 use mathlib.Core.Bool.{true}
