@@ -9,7 +9,6 @@ use Rattle.wavelengths.specs.Merge.{turn}
 use Rattle.planner.specs.Plan.{planned}
 use Rattle.recovery.specs.declared.Session.{Session}
 use Rattle.legacy.specs.declared.OldMesh.{OldMesh}
-use Rattle.legacy.specs.declared.OldPlan.{OldPlan}
 use Rattle.legacy.specs.declared.OldSession.{OldSession}
 use Rattle.legacy.specs.Record.{meshAnswer}
 use Rattle.legacy.specs.Calls as old

@@ -1,0 +1,4 @@
+pub mod OldKept
+pub mod Upgraded
+pub mod Demand
+pub mod Replayed

@@ -1,7 +1,7 @@
 -- A flood on each of the two wavelengths, each over a digraph and after a failure of its own, and deliveries on both in one order. Definitions only.
 use Prim.Native.Nat.{ℕ, zero, suc, _+_, max}
 use mathlib.Core.Bool.{Bool, cond, _&&_, _||_}
-use mathlib.Core.List.{List, [], _∷_}
+use mathlib.Core.List.{List, [], _∷_, map}
 use Rattle.scan.specs.Lowest.{lowest}
 use Rattle.scan.specs.Total.{bit}
 use Rattle.flood.specs.Digraph.{Digraph, Failure}
@@ -17,6 +17,10 @@ pub record Turn : Type 0 where
 
 abbrev pub turn : ℕ → Wavelength → Turn
 turn j w = record { link = j; wavelength = w }
+
+-- deliveries on wavelength w alone
+abbrev pub turnsOn : Wavelength → List ℕ → List Turn
+turnsOn w js = map (λ (j : ℕ). turn j w) js
 
 -- two floods, and how many deliveries led to them
 pub record Ran : Type 0 where

@@ -47,7 +47,7 @@ use Rattle.history.specs.Rules.{Now, runMade, ruleNext}
 use Rattle.history.specs.Log.{Log, emptyLog, note, logged}
 use Rattle.history.specs.Demand.{Sized, seen}
 use Rattle.history.specs.Laws.RuledCalls.{run-made}
-use Rattle.history.specs.Laws.RuledNext.{next-sized, next-seen}
+use Rattle.history.specs.Laws.RuledNext.{fresh-sized, cut-sized, play-sized, next-seen}
 
 -- whatever an accepted delivery answers, it is accepted
 pub acted-accepted : (a b v : ℕ) → accepted (acted a b v) ≡ true
@@ -55,6 +55,12 @@ acted-accepted a b v = branch IsAccepted (eqb v 2) (λ t. refl) (λ t. branch Is
   where
     IsAccepted : Delivered → Type 0
     IsAccepted d = accepted d ≡ true
+
+-- one delivery, which its flood accepts
+pub one-accepted : (g : Wavelength → Digraph) (c : Wavelength → Failure) (j : ℕ) (w : Wavelength) (f : Floods)
+    → machine.accepts (g w) j (on w f) ≡ true → merge.accepted g c (turn j w ∷ []) f ≡ 1
+unfolding merge.accepted merge.accepts merge.busy
+one-accepted g c j w f a = rw a
 
 -- the cut of link k stands, with these floods
 abbrev pub cutSession : Mesh → Plan → ℕ → Floods → Session
@@ -100,18 +106,17 @@ module _ (m : Mesh) (p : Plan) where
   kept-cut P h free k e = let z : _≡_ {A = ℕ} 0 1 = cc in absurd (omega arith)
   kept-cut P h (under {k = c} {ts} q) k e = let d : c ≡ k = cc in subst (λ (k : ℕ). P (cutSession m p c (played m p c ts)) k ts) d (h c ts q)
 
+  -- its lists have the lengths of a session's
+  pub kept-sized : {s : Session} {l : Log} → Kept s l → Sized s
+  kept-sized free = fresh-sized m p
+  kept-sized (under {k} {ts} q) = play-sized (cutOn (freshOn m p) k) (cut-sized (freshOn m p) (fresh-sized m p) k) ts
+
   -- it was just cut
   pub since-cut : {k : ℕ} → k < m .count → Since k []
   unfolding merge.accepted
   since-cut h = record { link = h; all = refl }
 
   -- ---- further deliveries
-
-  -- one that its flood accepts
-  pub one-accepted : (k j : ℕ) (w : Wavelength) (f : Floods) → machine.accepts (graphs m p w) j (on w f) ≡ true
-      → merge.accepted (graphs m p) (lost m p k) (turn j w ∷ []) f ≡ 1
-  unfolding merge.accepted merge.accepts merge.busy
-  one-accepted k j w f a = rw a
 
   -- any that are accepted in turn
   pub since-more : {k : ℕ} {ts : List Turn} → Since k ts → (us : List Turn)
@@ -121,16 +126,16 @@ module _ (m : Mesh) (p : Plan) where
     all = rw (accepted-append (graphs m p) (lost m p k) ts us (begun m p k), length-append ts us) (omega (arith, q .all));
   }
 
-  under-more : {k : ℕ} {ts : List Turn} → Since k ts → (us : List Turn)
-      → merge.accepted (graphs m p) (lost m p k) us (played m p k ts) ≡ length us
-      → Kept (cutSession m p k (play (graphs m p) (lost m p k) us (played m p k ts))) (record { cut = Link k; made = ts ++ us })
-  under-more {k} {ts} q us e =
+  pub more-kept : {s : Session} {l : Log} → Kept s l → standing (s .cut) ≡ true → (us : List Turn) → merge.accepted (digraph s) (failure s) us (floods s) ≡ length us
+      → Kept (withFloods s (play (digraph s) (failure s) us (floods s))) (record { cut = l .cut; made = l .made ++ us })
+  more-kept free e us a = clash e refl
+  more-kept (under {k} {ts} q) e us a =
       subst (λ (f : Floods). Kept (cutSession m p k f) (record { cut = Link k; made = ts ++ us }))
-      (play-append (graphs m p) (lost m p k) ts us (begun m p k)) (under (since-more q us e))
+      (play-append (graphs m p) (lost m p k) ts us (begun m p k)) (under (since-more q us a))
 
   -- ---- an accepted call
 
-  cut-kept : {s : Session} {l : Log} → Kept s l → (k : ℕ) → k < s .mesh .count → standing (s .cut) ≡ false → Kept (cutOn s k) (record { cut = Link k; made = [] })
+  pub cut-kept : {s : Session} {l : Log} → Kept s l → (k : ℕ) → k < s .mesh .count → standing (s .cut) ≡ false → Kept (cutOn s k) (record { cut = Link k; made = [] })
   unfolding play
   cut-kept free k h e = under (since-cut h)
   cut-kept (under q) k h e = clash refl e
@@ -138,20 +143,19 @@ module _ (m : Mesh) (p : Plan) where
   deliver-kept : {s : Session} {l : Log} → Kept s l → (j : ℕ) (w : Wavelength) → standing (s .cut) ≡ true → machine.accepts (digraph s w) j (on w (floods s)) ≡ true
       → Kept (withFloods s (step (digraph s) (failure s) (turn j w) (floods s))) (record { cut = l .cut; made = l .made ++ (turn j w ∷ []) })
   unfolding play
-  deliver-kept free j w e a = clash e refl
-  deliver-kept (under {k} {ts} q) j w e a = under-more q (turn j w ∷ []) (one-accepted k j w (played m p k ts) a)
+  deliver-kept {s} K j w e a = more-kept K e (turn j w ∷ []) (one-accepted (digraph s) (failure s) j w (floods s) a)
 
-  run-kept : {s : Session} {l : Log} → Kept s l → Sized s → (n : ℕ) → runAnswer s ≡ Accepted
+  run-kept : {s : Session} {l : Log} → Kept s l → (n : ℕ) → runAnswer s ≡ Accepted
       → Kept (withFloods s (merge.run (digraph s) (failure s) n (floods s) .floods)) (record { cut = l .cut; made = l .made ++ runMade g (s .cut) n (seen s) })
   unfolding merge.run
-  run-kept {s} free z n e = clash (run-accepted s e .1) refl
-  run-kept {s} (under {k} {ts} q) z n e =
+  run-kept {s} free n e = clash (run-accepted s e .1) refl
+  run-kept {s} (under {k} {ts} q) n e =
       let us : List Turn = merge.order (graphs m p) (lost m p k) n (played m p k ts) in
       subst (λ (made : List Turn). Kept (cutSession m p k (play (graphs m p) (lost m p k) us (played m p k ts))) (record { cut = Link k; made = ts ++ made }))
-      (run-made s (run-accepted s e .0) z n e)
-      (under-more q us (order-accepted (graphs m p) (lost m p k) n (played m p k ts)))
+      (run-made s (run-accepted s e .0) (kept-sized (under q)) n e)
+      (more-kept (under q) refl us (order-accepted (graphs m p) (lost m p k) n (played m p k ts)))
 
-  mend-kept : {s : Session} {l : Log} → Kept s l → Kept (freshOn (s .mesh) (s .plan)) emptyLog
+  pub mend-kept : {s : Session} {l : Log} → Kept s l → Kept (freshOn (s .mesh) (s .plan)) emptyLog
   mend-kept free = free
   mend-kept (under q) = free
 
@@ -160,14 +164,14 @@ module _ (m : Mesh) (p : Plan) where
   none-kept : {s : Session} {l : Log} → Kept s l → Kept s (record { cut = l .cut; made = l .made ++ [] })
   none-kept {s} {l} K = subst (λ (ts : List Turn). Kept s (record { cut = l .cut; made = ts })) (sym (append-nil (l .made))) K
 
-  call-kept : {s : Session} {l : Log} → Kept s l → Sized s → (c : Call) → Kept (next c s) (note g c (reply c s) (seen s) l)
+  call-kept : {s : Session} {l : Log} → Kept s l → (c : Call) → Kept (next c s) (note g c (reply c s) (seen s) l)
   unfolding afterCut afterDelivery afterRun afterMend
-  call-kept {s} {l} K z (cut f k) = by-answer (cutAnswer s k) refl
+  call-kept {s} {l} K (cut f k) = by-answer (cutAnswer s k) refl
     where
       by-answer : (a : Answer) → cutAnswer s k ≡ a → let r = change a s (cutOn s k) in Kept (r .session) (note g (cut f k) (r .answer) (seen s) l)
       by-answer Accepted e = let (r, h, c) = cut-accepted s k e in cut-kept K k h c
       by-answer (Refused number place) e = K
-  call-kept {s} {l} K z (deliver f k u) = by-answer (deliverAnswer s k u) refl
+  call-kept {s} {l} K (deliver f k u) = by-answer (deliverAnswer s k u) refl
     where
       w : Wavelength
       w = wavelengthOf u
@@ -180,45 +184,45 @@ module _ (m : Mesh) (p : Plan) where
           let (r, b, n, c, a) = deliver-accepted s k u e in
           rw (acted-accepted (digraph s w .tail k) (digraph s w .head k) (at (on w later .states) k)) (deliver-kept K k w c a)
       by-answer (Refused number place) e = none-kept K
-  call-kept {s} {l} K z (run n) = by-answer (runAnswer s) refl
+  call-kept {s} {l} K (run n) = by-answer (runAnswer s) refl
     where
       by-answer : (a : Answer) → runAnswer s ≡ a → let r = runAs a s (merge.run (digraph s) (failure s) n (floods s)) in
           Kept (r .session) (note g (run n) (r .report) (seen s) l)
-      by-answer Accepted e = run-kept K z n e
+      by-answer Accepted e = run-kept K n e
       by-answer (Refused number place) e = none-kept K
-  call-kept {s} {l} K z (mend f k) = by-answer (mendAnswer s k)
+  call-kept {s} {l} K (mend f k) = by-answer (mendAnswer s k)
     where
       by-answer : (a : Answer) → let r = change a s (freshOn (s .mesh) (s .plan)) in Kept (r .session) (note g (mend f k) (r .answer) (seen s) l)
       by-answer Accepted = mend-kept K
       by-answer (Refused number place) = K
-  call-kept K z (status k u) = K
+  call-kept K (status k u) = K
 
   -- ---- any list of calls
 
   module _ (tested : (s : Session) (l : Log) → Kept s l → recordAnswer s ≡ Accepted) where
     -- the rules go on from what the session holds
-    next-now : {s : Session} {l : Log} → Kept s l → Sized s → (c : Call) → seen (next c s) ≡ ruleNext g c (seen s)
-    next-now {s} {l} K z c =
+    next-now : {s : Session} {l : Log} → Kept s l → (c : Call) → seen (next c s) ≡ ruleNext g c (seen s)
+    next-now {s} {l} K c =
         let (held, planned, _) = kept-holds K in
-        next-seen s z (tested s l K) c ∙ ap₂ (λ (m : Mesh) (p : Plan). ruleNext (backup m p) c (seen s)) held planned
+        next-seen s (kept-sized K) (tested s l K) c ∙ ap₂ (λ (m : Mesh) (p : Plan). ruleNext (backup m p) c (seen s)) held planned
 
-    pub calls-kept : (cs : List Call) {s : Session} {l : Log} → Kept s l → Sized s → Kept (after cs s) (logged g (answers cs s) (seen s) l)
+    pub calls-kept : (cs : List Call) {s : Session} {l : Log} → Kept s l → Kept (after cs s) (logged g (answers cs s) (seen s) l)
     unfolding after answers logged
-    calls-kept [] K z = K
-    calls-kept (c ∷ cs) {s} {l} K z =
+    calls-kept [] K = K
+    calls-kept (c ∷ cs) {s} {l} K =
         subst (λ (n : Now). Kept (after cs (next c s)) (logged g (answers cs (next c s)) n (note g c (reply c s) (seen s) l)))
-        (next-now K z c) (calls-kept cs (call-kept K z c) (next-sized c s z))
+        (next-now K c) (calls-kept cs (call-kept K c))
 
     -- further calls go on from what the session holds and what the answers say then
-    pub calls-more : (cs ds : List Call) {s : Session} {l : Log} → Kept s l → Sized s
+    pub calls-more : (cs ds : List Call) {s : Session} {l : Log} → Kept s l
         → logged g (answers (cs ++ ds) s) (seen s) l ≡ logged g (answers ds (after cs s)) (seen (after cs s)) (logged g (answers cs s) (seen s) l)
     unfolding after answers logged
-    calls-more [] ds K z = refl
-    calls-more (c ∷ cs) ds {s} {l} K z =
+    calls-more [] ds K = refl
+    calls-more (c ∷ cs) ds {s} {l} K =
         let L : Log = note g c (reply c s) (seen s) l in
         let t : Session = next c s in
         subst (λ (n : Now). logged g (answers (cs ++ ds) t) n L ≡ logged g (answers ds (after cs t)) (seen (after cs t)) (logged g (answers cs t) n L))
-        (next-now K z c) (calls-more cs ds (call-kept K z c) (next-sized c s z))
+        (next-now K c) (calls-more cs ds (call-kept K c))
 
   -- ---- on wavelength w
 

@@ -33,10 +33,9 @@ use Rattle.history.specs.History.{Call, reply, after, accepted}
 use Rattle.history.specs.Rules.{ruled, ruleReply}
 use Rattle.history.specs.Log.{Log, emptyLog}
 use Rattle.history.specs.Demand.{UnderWay, Recovers, Follows, Sized, seen, arcs, digraphOn, DemandFrom, Demand3}
-use Rattle.history.specs.Laws.Kept.{cutSession, played, Since, Kept, free, under, acted-accepted, kept-holds, kept-cut, calls-kept}
+use Rattle.history.specs.Laws.Kept.{cutSession, played, Since, Kept, free, under, acted-accepted, kept-holds, kept-cut, kept-sized, calls-kept}
 use Rattle.history.specs.Laws.Started.{started-fresh, from-start, progress, kept-record}
 use Rattle.history.specs.Laws.Routed.{seen-rest, rest-path}
-use Rattle.history.specs.Laws.RuledNext.{fresh-sized}
 use Rattle.history.specs.Laws.Ruled.{Passing, follows-self, list-follows, list-answers}
 
 -- a further delivery is accepted just where its link is under way on the wavelength that its number names
@@ -92,17 +91,17 @@ module _ (m : Mesh) (good : planned m .answer ≡ Accepted) where
   seen-ruled s z calls passing =
       (list-follows s (seen s) calls z passing (follows-self s), list-answers s (seen s) calls z passing (follows-self s))
 
-  kept-ruled : {s : Session} {l : Log} → Kept m p s l → Sized s → (calls : List Call) → Passing calls s → Ruled (digraphOn m) (lengths m) calls s
-  kept-ruled {s} free = seen-ruled s
-  kept-ruled {s} (under q) = seen-ruled s
+  kept-ruled : {s : Session} {l : Log} → Kept m p s l → (calls : List Call) → Passing calls s → Ruled (digraphOn m) (lengths m) calls s
+  kept-ruled {s} free = seen-ruled s (kept-sized m p free)
+  kept-ruled {s} (under q) = seen-ruled s (kept-sized m p (under q))
 
   -- demand 3 from any session that the calls keep
-  pub demand-from : length (m .links) ≡ 256 → {s : Session} {l : Log} → Kept m p s l → Sized s → (calls : List Call) → DemandFrom m s (seen s) l calls
-  demand-from sized {s} {l} K z calls =
+  pub demand-from : length (m .links) ≡ 256 → {s : Session} {l : Log} → Kept m p s l → (calls : List Call) → DemandFrom m s (seen s) l calls
+  demand-from sized {s} {l} K calls =
       let tested : (s : Session) (l : Log) → Kept m p s l → recordAnswer s ≡ Accepted = λ s l. kept-record m good sized in
-      let after-calls = calls-kept m p tested calls K z in
-      let passing : Passing calls s = λ first rest e. kept-record m good sized (calls-kept m p tested first K z) in
-      let (follows, answered) = kept-ruled K z calls passing in
+      let after-calls = calls-kept m p tested calls K in
+      let passing : Passing calls s = λ first rest e. kept-record m good sized (calls-kept m p tested first K) in
+      let (follows, answered) = kept-ruled K calls passing in
       record {
         passes = passing;
         mesh = kept-holds m p after-calls .0;
@@ -116,5 +115,5 @@ module _ (m : Mesh) (good : planned m .answer ≡ Accepted) where
 pub demand-3 : (m : Mesh) → length (m .links) ≡ 256 → planned m .answer ≡ Accepted → (calls : List Call) → Demand3 m calls
 demand-3 m sized good calls = record {
   starts = ap (λ (r : Change). r .answer) (started-fresh m good);
-  holds = from-start m good (λ s n. DemandFrom m s n emptyLog calls) (demand-from m good sized free (fresh-sized m (planned m .plan)) calls);
+  holds = from-start m good (λ s n. DemandFrom m s n emptyLog calls) (demand-from m good sized free calls);
 }

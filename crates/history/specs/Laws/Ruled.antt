@@ -49,6 +49,11 @@ call-as-ruled s z r c =
 same-backup : {m m′ : Mesh} {p p′ : Plan} → (m ≡ m′) × (p ≡ p′) → backup m p ≡ backup m′ p′
 same-backup (a, b) = ap₂ backup a b
 
+pub after-append : (calls more : List Call) (s : Session) → after (calls ++ more) s ≡ after more (after calls s)
+unfolding after
+after-append [] more s = refl
+after-append (c ∷ cs) more s = after-append cs more (next c s)
+
 after-mesh-plan : (calls : List Call) (s : Session) → (after calls s .mesh ≡ s .mesh) × (after calls s .plan ≡ s .plan)
 unfolding after
 after-mesh-plan [] s = (refl, refl)
@@ -57,7 +62,7 @@ after-mesh-plan (c ∷ cs) s =
     let (m₀, p₀) = next-mesh-plan c s in
     (m ∙ m₀, p ∙ p₀)
 
-pub after-sized : (calls : List Call) (s : Session) → Sized s → Sized (after calls s)
+after-sized : (calls : List Call) (s : Session) → Sized s → Sized (after calls s)
 unfolding after
 after-sized [] s z = z
 after-sized (c ∷ cs) s z = after-sized cs (next c s) (next-sized c s z)

@@ -3,7 +3,7 @@
 use Prim.Native.Nat.{ℕ}
 use mathlib.Core.Path.{_≡_, refl, sym, _∙_, ap, subst}
 use mathlib.Core.Bool.{false}
-use mathlib.Core.List.{[], _∷_}
+use mathlib.Core.List.{List, [], _∷_}
 use lib.ListN.{length-replicate}
 use Rattle.mesh.specs.declared.Mesh.{Mesh}
 use Rattle.mesh.specs.declared.Plan.{Plan}
@@ -17,12 +17,12 @@ use Rattle.wavelengths.specs.declared.Floods.{Floods}
 use Rattle.wavelengths.specs.declared.Wavelength.{Wavelength}
 use Rattle.wavelengths.specs.Wavelength.{wavelengthOf, on}
 use Rattle.wavelengths.specs.Merge as merge
-use Rattle.wavelengths.specs.Merge.{turn, order, play}
+use Rattle.wavelengths.specs.Merge.{Turn, turn, order, play}
 use Rattle.wavelengths.specs.Laws.Project.{fresh-on, on-begin}
 use Rattle.recovery.specs.declared.Session.{Session}
 use Rattle.recovery.specs.Session.{floods}
 use Rattle.recovery.specs.Formed.{recordAnswer}
-use Rattle.recovery.specs.Calls.{digraph, failure, freshOn, withFloods, change, deliveryAs, runAs, afterCut, afterDelivery, afterRun, afterMend}
+use Rattle.recovery.specs.Calls.{digraph, failure, freshOn, cutOn, withFloods, change, deliveryAs, runAs, afterCut, afterDelivery, afterRun, afterMend}
 use Rattle.history.specs.History.{Call, cut, deliver, run, mend, status, next}
 use Rattle.history.specs.Rules.{Now, effect, changedBy, ruleNext}
 use Rattle.history.specs.Demand.{Sized, seen, arcs}
@@ -77,20 +77,28 @@ fresh-sized m p = record {
   reached = λ w. rw (fresh-on w 256 64) (length-replicate 64 false);
 }
 
+-- a cut and deliveries keep the lengths
+module _ (s : Session) (z : Sized s) where
+  framed : (t : Session) → ((w : Wavelength) → Frame (digraph s w) (on w (floods s)) (on w (floods t))) → Sized t
+  framed t F = record { states = λ w. F w .states .sized ∙ z .states w; reached = λ w. F w .reached .sized ∙ z .reached w }
+
+  pub cut-sized : (k : ℕ) → Sized (cutOn s k)
+  cut-sized k =
+      let lost : Wavelength → Failure = λ w. failures.cut (digraph s w) k in
+      framed (cutOn s k)
+      (λ w. subst (Frame (digraph s w) (on w (floods s))) (sym (on-begin (digraph s) lost w (floods s))) (begin-frame (digraph s w) (lost w) (on w (floods s))))
+
+  pub play-sized : (ts : List Turn) → Sized (withFloods s (play (digraph s) (failure s) ts (floods s)))
+  play-sized ts = framed (withFloods s (play (digraph s) (failure s) ts (floods s))) (play-frames (digraph s) (failure s) ts (floods s))
+
 pub next-sized : (c : Call) (s : Session) → Sized s → Sized (next c s)
 unfolding play merge.run
 next-sized c s z = next-keeps Sized c s z (go c)
   where
-    framed : (t : Session) → ((w : Wavelength) → Frame (digraph s w) (on w (floods s)) (on w (floods t))) → Sized t
-    framed t F = record { states = λ w. F w .states .sized ∙ z .states w; reached = λ w. F w .reached .sized ∙ z .reached w }
-
     go : (c : Call) → Sized (made c s)
-    go (cut f k) =
-        let lost : Wavelength → Failure = λ w. failures.cut (digraph s w) k in
-        framed (made (cut f k) s)
-        (λ w. subst (Frame (digraph s w) (on w (floods s))) (sym (on-begin (digraph s) lost w (floods s))) (begin-frame (digraph s w) (lost w) (on w (floods s))))
-    go (deliver f k u) = framed (made (deliver f k u) s) (play-frames (digraph s) (failure s) (turn k (wavelengthOf u) ∷ []) (floods s))
-    go (run n) = framed (made (run n) s) (play-frames (digraph s) (failure s) (order (digraph s) (failure s) n (floods s)) (floods s))
+    go (cut f k) = cut-sized s z k
+    go (deliver f k u) = play-sized s z (turn k (wavelengthOf u) ∷ [])
+    go (run n) = play-sized s z (order (digraph s) (failure s) n (floods s))
     go (mend f k) = fresh-sized (s .mesh) (s .plan)
     go (status k u) = z
 

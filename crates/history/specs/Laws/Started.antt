@@ -36,7 +36,6 @@ use Rattle.history.specs.Log.{Log, emptyLog, logged}
 use Rattle.history.specs.Demand.{seen, startedOn, digraphOn, ended, log}
 use Rattle.history.specs.Laws.Backup.{plan-most, plan-past, plan-strong}
 use Rattle.history.specs.Laws.RuledCalls.{fresh-seen}
-use Rattle.history.specs.Laws.RuledNext.{fresh-sized}
 use Rattle.history.specs.Laws.Kept as kept
 use Rattle.history.specs.Laws.Kept.{cutSession, graphs, lost, played, Since, Kept, free, under, calls-kept, calls-more}
 
@@ -92,11 +91,11 @@ module _ (m : Mesh) (accepted : planned m .answer ≡ Accepted) where
     pub ended-kept : (calls : List Call) → Kept m p (ended m calls) (log m calls)
     ended-kept calls =
         from-start (λ s n. Kept m p (after calls s) (logged (digraphOn m) (answers calls s) n emptyLog))
-        (calls-kept m p (λ s l. kept-record) calls free (fresh-sized m p))
+        (calls-kept m p (λ s l. kept-record) calls free)
 
     -- what they say after further calls
     pub ended-more : (calls more : List Call) → log m (calls ++ more) ≡ logged (digraphOn m) (answers more (ended m calls)) (seen (ended m calls)) (log m calls)
     ended-more calls more =
         from-start (λ s n. let t = after calls s in logged (digraphOn m) (answers (calls ++ more) s) n emptyLog
         ≡ logged (digraphOn m) (answers more t) (seen t) (logged (digraphOn m) (answers calls s) n emptyLog))
-        (calls-more m p (λ s l. kept-record) calls more free (fresh-sized m p))
+        (calls-more m p (λ s l. kept-record) calls more free)

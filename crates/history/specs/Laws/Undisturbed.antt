@@ -1,6 +1,6 @@
 -- The wavelengths do not disturb each other: the cut and the deliveries on one wavelength, made alone, are all accepted and lead to the same flood there,
--- since a flood is what its own deliveries make; and what a run makes on one wavelength is what that wavelength's own run makes. Assumes 256 entries in the
--- mesh's list of links.
+-- since a flood is what its own deliveries make, and to the same session where there were no others; and what a run makes on one wavelength is what that
+-- wavelength's own run makes. Assumes 256 entries in the mesh's list of links.
 use Prim.Native.Nat.{ℕ, _<_, _≤_}
 use mathlib.Core.Path.{_≡_, refl, sym, ap, ap₂, subst, _∙_}
 use mathlib.Core.Bool.{true}
@@ -20,9 +20,9 @@ use Rattle.wavelengths.specs.declared.Floods.{Floods}
 use Rattle.wavelengths.specs.declared.Wavelength.{Wavelength}
 use Rattle.wavelengths.specs.Wavelength.{isWavelength, wavelengthOf, numberOf, on}
 use Rattle.wavelengths.specs.Merge as merge
-use Rattle.wavelengths.specs.Merge.{Turn, turn, linksOn, freshOnEach, step, play, order}
+use Rattle.wavelengths.specs.Merge.{Turn, turn, turnsOn, linksOn, freshOnEach, step, play, order}
 use Rattle.wavelengths.specs.Laws.Wavelength.{same-self, wavelength-named}
-use Rattle.wavelengths.specs.Laws.Project.{links-own, links-append, step-own, play-append}
+use Rattle.wavelengths.specs.Laws.Project.{links-append, links-turns, step-own, play-append}
 use Rattle.wavelengths.specs.Laws.Run.{order-on}
 use Rattle.wavelengths.specs.Laws.Rest.{share-within}
 use Rattle.mesh.specs.declared.Mesh.{Mesh}
@@ -43,20 +43,30 @@ use Rattle.recovery.specs.Laws.Tested.{deliver-accepts}
 use Rattle.history.specs.History.{Call, by-value, cut, deliver, run, reply, next, after, answers}
 use Rattle.history.specs.Rules.{Now, ruleNext}
 use Rattle.history.specs.Log.{Log, emptyLog, madeOn, madeBy, note, logged}
-use Rattle.history.specs.Demand.{Sized, seen, digraphOn, ended, log, callsOn, alone, Undisturbed, RunsAlone}
+use Rattle.history.specs.Demand.{seen, digraphOn, ended, log, callsOn, alone, Undisturbed, RunsAlone}
 use Rattle.history.specs.Laws.RuledCalls.{run-made}
-use Rattle.history.specs.Laws.RuledNext.{fresh-sized}
-use Rattle.history.specs.Laws.Ruled.{after-sized}
 use Rattle.history.specs.Laws.Kept.{cutSession, graphs, lost, begun, played, Since, Kept, free, under}
-use Rattle.history.specs.Laws.Kept.{acted-accepted, since-cut, one-accepted, since-more, played-own, accepted-own}
+use Rattle.history.specs.Laws.Kept.{acted-accepted, since-cut, kept-sized, one-accepted, since-more, played-own, accepted-own}
 use Rattle.history.specs.Laws.Started.{from-start, kept-record, ended-kept, ended-more}
 
 -- the log under the cut of link k, after the deliveries ts
 abbrev since : ℕ → List Turn → Log
 since k ts = record { cut = Link k; made = ts }
 
--- ---- a flood by its own deliveries
+-- ---- what the deliveries made
 
+-- the session by all of them
+module _ (m : Mesh) (p : Plan) where
+  sessionBy : Cut → List Turn → Session
+  sessionBy (Link k) ts = cutSession m p k (played m p k ts)
+  sessionBy Nothing ts = freshOn m p
+
+  kept-session : {s : Session} {l : Log} → Kept m p s l → s ≡ sessionBy (l .cut) (l .made)
+  unfolding sessionBy
+  kept-session free = refl
+  kept-session (under q) = refl
+
+-- a flood by its own
 module _ (m : Mesh) (p : Plan) (w : Wavelength) where
   floodBy : Cut → List ℕ → Flood
   floodBy (Link k) js = machine.play (graphs m p w) (lost m p k w) js (on w (begun m p k))
@@ -153,7 +163,7 @@ module _ (m : Mesh) (sized : length (m .links) ≡ 256) (good : planned m .answe
       us = ts ++ (turn j w ∷ [])
 
       single-since : Since m p k us
-      single-since = since-more m p q (turn j w ∷ []) (one-accepted m p k j w (played m p k ts) a)
+      single-since = since-more m p q (turn j w ∷ []) (one-accepted (graphs m p) (lost m p k) j w (played m p k ts) a)
 
       single-accepted : deliverAnswer s j u ≡ Accepted
       single-accepted = deliver-accepts s j u (kept-record m good sized (under q)) named refl a
@@ -165,10 +175,6 @@ module _ (m : Mesh) (sized : length (m .links) ≡ 256) (good : planned m .answe
       single-flood : on w (played m p k us) ≡ machine.step gw cw j (on w (played m p k ts))
       single-flood = ap (on w) (sym single-floods) ∙ step-own (graphs m p) (lost m p k) w (turn j w) (played m p k ts) (same-self w)
 
-      single-links : linksOn w us ≡ linksOn w ts ++ (j ∷ [])
-      unfolding linksOn
-      single-links = links-append w ts (turn j w ∷ []) ∙ ap (λ (js : List ℕ). linksOn w ts ++ js) (links-own w (turn j w) [] (same-self w))
-
       single-logged : (cs : List Call) (n : Now) → logged (digraphOn m) (answers (single j ∷ cs) s) n (since k ts)
           ≡ logged (digraphOn m) (answers cs (cutSession m p k (played m p k us))) (ruleNext (digraphOn m) (single j) n) (since k us)
       unfolding answers logged
@@ -179,40 +185,43 @@ module _ (m : Mesh) (sized : length (m .links) ≡ 256) (good : planned m .answe
 
     -- any more, each accepted in its turn
     singles : (js : List ℕ) {ts : List Turn} → Since m p k ts → machine.accepted gw cw js (on w (played m p k ts)) ≡ length js → (n : Now)
-        → let l = logged (digraphOn m) (answers (map single js) (cutSession m p k (played m p k ts))) n (since k ts) in
-        (l .cut ≡ Link k) × (madeOn w l ≡ linksOn w ts ++ js)
+        → logged (digraphOn m) (answers (map single js) (cutSession m p k (played m p k ts))) n (since k ts) ≡ since k (ts ++ turnsOn w js)
     unfolding answers logged machine.accepted
-    singles [] {ts} q e n = (refl, sym (append-nil (linksOn w ts)))
+    singles [] {ts} q e n = ap (since k) (sym (append-nil ts))
     singles (j ∷ js) {ts} q e n =
         let f : Flood = on w (played m p k ts) in
         let most = accepted-most gw cw js (machine.step gw cw j f) in
         let a : machine.accepts gw j f ≡ true = ⊎-elim (λ t. t) (λ t. absurd (omega (arith, ap bit t, e))) (known (machine.accepts gw j f)) in
-        let (c, l) = singles js (single-since q j a) (rw (single-flood q j a) (omega (arith, ap bit a, e))) (ruleNext (digraphOn m) (single j) n) in
-        rw (single-logged q j a (map single js) n)
-        (c, l ∙ ap (λ (is : List ℕ). is ++ js) (single-links q j a) ∙ append-assoc (linksOn w ts) (j ∷ []) js)
+        single-logged q j a (map single js) n
+        ∙ singles js (single-since q j a) (rw (single-flood q j a) (omega (arith, ap bit a, e))) (ruleNext (digraphOn m) (single j) n)
+        ∙ ap (since k) (append-assoc ts (turn j w ∷ []) (turnsOn w js))
 
     -- the cut and the deliveries js alone
     cut-singles : (js : List ℕ) → k < m .count → machine.accepted gw cw js (on w (begun m p k)) ≡ length js
-        → let l = log m (cut by-value k ∷ map single js) in (l .cut ≡ Link k) × (madeOn w l ≡ js)
-    unfolding play linksOn
+        → log m (cut by-value k ∷ map single js) ≡ since k (turnsOn w js)
+    unfolding play
     cut-singles js b e =
-        from-start m good (λ s n. let l = logged (digraphOn m) (answers (cut by-value k ∷ map single js) s) n emptyLog in (l .cut ≡ Link k) × (madeOn w l ≡ js))
-        (rw (cut-logged k b (map single js) (seen (freshOn m p)) emptyLog) (singles js (since-cut m p b) e (ruleNext (digraphOn m) (cut by-value k) (seen (freshOn m p)))))
+        from-start m good (λ s n. logged (digraphOn m) (answers (cut by-value k ∷ map single js) s) n emptyLog ≡ since k (turnsOn w js))
+        (cut-logged k b (map single js) (seen (freshOn m p)) emptyLog ∙ singles js (since-cut m p b) e (ruleNext (digraphOn m) (cut by-value k) (seen (freshOn m p))))
 
-  -- what the calls on wavelength w alone say
+  -- what the calls on wavelength w alone say: the cut, and the deliveries on w
   alone-says : (w : Wavelength) {s : Session} {l : Log} → Kept m p s l
-      → let o = log m (callsOn w (l .cut) (madeOn w l)) in (o .cut ≡ l .cut) × (madeOn w o ≡ madeOn w l)
-  unfolding answers logged
-  alone-says w free = (refl, refl)
+      → log m (callsOn w (l .cut) (madeOn w l)) ≡ record { cut = l .cut; made = turnsOn w (madeOn w l) }
+  unfolding answers logged linksOn
+  alone-says w free = refl
   alone-says w (under {k} {ts} q) =
       let (named, is) = wavelength-named w in
-      subst (λ (v : Wavelength). let o = log m (callsOn w (Link k) (linksOn v ts)) in (o .cut ≡ Link k) × (madeOn v o ≡ linksOn v ts)) is
+      subst (λ (v : Wavelength). log m (callsOn w (Link k) (linksOn v ts)) ≡ since k (turnsOn v (linksOn v ts))) is
       (cut-singles (numberOf w) named k (linksOn (wavelengthOf (numberOf w)) ts) (q .link) (accepted-own m p q (wavelengthOf (numberOf w))))
 
-  -- ---- a run
+  -- where all deliveries since the cut were on wavelength w, these calls give the session, and say all that was said
+  pub alone-is : (w : Wavelength) (c : Cut) (js : List ℕ) {s : Session} → let l : Log = record { cut = c; made = turnsOn w js } in
+      Kept m p s l → (ended m (callsOn w c js) ≡ s) × (log m (callsOn w c js) ≡ l)
+  alone-is w c js K =
+      let e = subst (λ (is : List ℕ). log m (callsOn w c is) ≡ record { cut = c; made = turnsOn w is }) (links-turns w js) (alone-says w K) in
+      (kept-session m p (ended-kept m good sized (callsOn w c js)) ∙ ap (λ (l : Log). sessionBy m p (l .cut) (l .made)) e ∙ sym (kept-session m p K), e)
 
-  pub ended-sized : (calls : List Call) → Sized (ended m calls)
-  ended-sized calls = from-start m good (λ s n. Sized (after calls s)) (after-sized calls (freshOn m p) (fresh-sized m p))
+  -- ---- a run
 
   -- under a cut it is accepted, and its deliveries are those of the floods' run
   module _ {k : ℕ} {ts : List Turn} (q : Since m p k ts) (a : ℕ) where
@@ -226,22 +235,22 @@ module _ (m : Mesh) (sized : length (m .links) ≡ 256) (good : planned m .answe
     pub run-is : afterRun t a ≡ runAs Accepted t (merge.run (graphs m p) (lost m p k) a (played m p k ts))
     run-is = run-answered t a run-passes
 
-    pub run-order : Sized t → runTurns m t a ≡ order (graphs m p) (lost m p k) a (played m p k ts)
-    run-order z = ap (noted m t a) run-is ∙ sym (run-made t (kept-record m good sized (under q)) z a run-passes)
+    pub run-order : runTurns m t a ≡ order (graphs m p) (lost m p k) a (played m p k ts)
+    run-order = ap (noted m t a) run-is ∙ sym (run-made t (kept-record m good sized (under q)) (kept-sized m p (under q)) a run-passes)
 
   module _ (w : Wavelength) (a : ℕ) where
     -- the deliveries us are, on wavelength w, those of its own run
     abbrev Own : Session → List Turn → Type 0
     Own s us = (n : ℕ) × (n ≤ a) × (linksOn w us ≡ machine.order (digraph s w) (failure s w) n (on w (floods s)))
 
-    run-own : {s : Session} {l : Log} → Kept m p s l → Sized s → Own s (runTurns m s a)
+    run-own : {s : Session} {l : Log} → Kept m p s l → Own s (runTurns m s a)
     unfolding linksOn machine.order refusals.runAnswer
-    run-own {s} free z =
+    run-own {s} free =
         let refused : runAnswer s ≡ Refused 23 0 = rw (kept-record m good sized free) in
         subst (Own s) (sym (ap (noted m s a) (run-answered s a refused))) (0, omega arith, refl)
-    run-own {s} (under {k} {ts} q) z =
+    run-own {s} (under {k} {ts} q) =
         let us : List Turn = order (graphs m p) (lost m p k) a (played m p k ts) in
-        subst (Own s) (sym (run-order q a z))
+        subst (Own s) (sym (run-order q a))
         (length (linksOn w us), share-within (graphs m p) (lost m p k) (played m p k ts) w a, order-on (graphs m p) (lost m p k) w a (played m p k ts))
 
     -- after the calls they follow those made before
@@ -253,7 +262,9 @@ pub undisturbed : (m : Mesh) → length (m .links) ≡ 256 → planned m .answer
 undisturbed m sized good calls w =
     let p : Plan = planned m .plan in
     let kept : (cs : List Call) → Kept m p (ended m cs) (log m cs) = ended-kept m good sized in
-    let (c, l) = alone-says m sized good w (kept calls) in
+    let o = alone-says m sized good w (kept calls) in
+    let c : log m (alone m calls w) .cut ≡ log m calls .cut = ap (λ (l : Log). l .cut) o in
+    let l : madeOn w (log m (alone m calls w)) ≡ madeOn w (log m calls) = ap (madeOn w) o ∙ links-turns w (madeOn w (log m calls)) in
     record {
       same-cut = c;
       same-flood = kept-flood m p w (kept (alone m calls w)) ∙ ap₂ (floodBy m p w) c l ∙ sym (kept-flood m p w (kept calls));
@@ -262,7 +273,7 @@ undisturbed m sized good calls w =
 
 pub runs-alone : (m : Mesh) → length (m .links) ≡ 256 → planned m .answer ≡ Accepted → (calls : List Call) (w : Wavelength) (a : ℕ) → RunsAlone m calls w a
 runs-alone m sized good calls w a =
-    let (n, most, own) = run-own m sized good w a (ended-kept m good sized calls) (ended-sized m sized good calls) in
+    let (n, most, own) = run-own m sized good w a (ended-kept m good sized calls) in
     record {
       n = n;
       most = most;

@@ -33,17 +33,12 @@ use Rattle.recovery.specs.Session.{floods}
 use Rattle.recovery.specs.Calls.{digraph, failure, withFloods}
 use Rattle.history.specs.History.{Call, by-value, cut, run, reply, next, after}
 use Rattle.history.specs.Log.{madeOn, deliveriesOn}
-use Rattle.history.specs.Demand.{Sized, AtRest, startedOn, ended, log, RunsOut}
+use Rattle.history.specs.Demand.{AtRest, startedOn, ended, log, RunsOut}
 use Rattle.history.specs.Laws.Kept.{cutSession, graphs, lost, played, Since, kept-cut}
 use Rattle.history.specs.Laws.Started.{sound, progress, ended-kept}
 use Rattle.history.specs.Laws.Routed.{seen-rest}
-use Rattle.history.specs.Laws.Undisturbed.{runTurns, just-cut, ended-sized, run-is, run-order, run-logged}
-
--- the session after the calls, and one more
-after-one : (calls : List Call) (c : Call) (s : Session) → after (calls ++ (c ∷ [])) s ≡ next c (after calls s)
-unfolding after
-after-one [] c s = refl
-after-one (d ∷ calls) c s = after-one calls c (next d s)
+use Rattle.history.specs.Laws.Ruled.{after-append}
+use Rattle.history.specs.Laws.Undisturbed.{runTurns, just-cut, run-is, run-order, run-logged}
 
 module _ (m : Mesh) (sized : length (m .links) ≡ 256) (good : planned m .answer ≡ Accepted) (a : ℕ) (enough : 4 * m .count ≤ a) where
   abbrev p : Plan
@@ -100,14 +95,15 @@ module _ (m : Mesh) (sized : length (m .links) ≡ 256) (good : planned m .answe
 
 pub runs-out : (m : Mesh) → length (m .links) ≡ 256 → planned m .answer ≡ Accepted → (calls : List Call) (k : ℕ) → log m calls .cut ≡ Link k
     → (a : ℕ) → 4 * m .count ≤ a → (w : Wavelength) → RunsOut m calls w a
+unfolding after
 runs-out m sized good calls k stands a enough w =
     let (whole, rests) = kept-cut m (planned m .plan)
-    (λ s k ts. (Sized s → linksOn w (runTurns m s a) ≡ machine.order (digraph s w) (failure s w) a (on w (floods s))) × AtRest (next (run a) s) w)
-    (λ k ts q. (λ z. ap (linksOn w) (run-order m sized good q a z) ∙ run-whole m sized good a enough q w, run-resting m sized good a enough q w))
+    (λ s k ts. (linksOn w (runTurns m s a) ≡ machine.order (digraph s w) (failure s w) a (on w (floods s))) × AtRest (next (run a) s) w)
+    (λ k ts q. (ap (linksOn w) (run-order m sized good q a) ∙ run-whole m sized good a enough q w, run-resting m sized good a enough q w))
     (ended-kept m good sized calls) k stands in
     record {
-      same = run-logged m sized good w a calls ∙ ap (λ (js : List ℕ). madeOn w (log m calls) ++ js) (whole (ended-sized m sized good calls));
-      rests = subst (λ (s : Session). AtRest s w) (sym (after-one calls (run a) (startedOn m))) rests;
+      same = run-logged m sized good w a calls ∙ ap (λ (js : List ℕ). madeOn w (log m calls) ++ js) whole;
+      rests = subst (λ (s : Session). AtRest s w) (sym (after-append calls (run a ∷ []) (startedOn m))) rests;
     }
 
 -- it reports that nothing is under way on either

@@ -12,9 +12,9 @@ use Rattle.flood.specs.declared.Flood.{Flood}
 use Rattle.flood.specs.Machine as machine
 use Rattle.wavelengths.specs.declared.Floods.{Floods}
 use Rattle.wavelengths.specs.declared.Wavelength.the-variants.{First, Second}
-use Rattle.wavelengths.specs.Wavelength.{Wavelength, same, on, pair}
-use Rattle.wavelengths.specs.Merge.{Turn, linksOn, freshOnEach, busy, accepts, begin, step, play, accepted}
-use Rattle.wavelengths.specs.Laws.Wavelength.{same-is, on-put, on-put-other}
+use Rattle.wavelengths.specs.Wavelength.{Wavelength, same, on, put, pair}
+use Rattle.wavelengths.specs.Merge.{Turn, turn, turnsOn, linksOn, freshOnEach, busy, accepts, begin, step, play, accepted}
+use Rattle.wavelengths.specs.Laws.Wavelength.{same-is, same-self, on-put, on-put-other}
 
 -- ---- a list of deliveries
 
@@ -49,6 +49,17 @@ links-all (t ∷ ts) = go (t .wavelength) (links-all ts)
     go : (v : Wavelength) → length (linksOn First ts) + length (linksOn Second ts) ≡ length ts → length (with-turn First v) + length (with-turn Second v) ≡ length (t ∷ ts)
     go First h = omega arith
     go Second h = omega arith
+
+-- deliveries on one wavelength alone are all of its own list, and none of the other's
+pub links-turns : (w : Wavelength) (js : List ℕ) → linksOn w (turnsOn w js) ≡ js
+unfolding linksOn
+links-turns w [] = refl
+links-turns w (j ∷ js) = links-own w (turn j w) (turnsOn w js) (same-self w) ∙ ap (_∷_ j) (links-turns w js)
+
+pub links-turns-other : (w v : Wavelength) (js : List ℕ) → same w v ≡ false → linksOn w (turnsOn v js) ≡ []
+unfolding linksOn
+links-turns-other w v [] e = refl
+links-turns-other w v (j ∷ js) e = links-other w (turn j v) (turnsOn v js) e ∙ links-turns-other w v js e
 
 -- ---- the failure, and a delivery
 
@@ -102,6 +113,21 @@ module _ (g : Wavelength → Digraph) (c : Wavelength → Failure) where
           → on w (play g c ts (step g c t p)) ≡ machine.play (g w) (c w) (linksOn w (t ∷ ts)) (on w p)
       go true e h = rw e (h ∙ ap (machine.play (g w) (c w) (linksOn w ts)) (step-own w t p e))
       go false e h = rw e (h ∙ ap (machine.play (g w) (c w) (linksOn w ts)) (step-other w t p e))
+
+  -- deliveries on wavelength w alone are made, and accepted, as those of its flood
+  pub play-turns : (w : Wavelength) (js : List ℕ) (p : Floods) → play g c (turnsOn w js) p ≡ put w (machine.play (g w) (c w) js (on w p)) p
+  unfolding play step machine.play
+  play-turns First [] p = refl
+  play-turns First (j ∷ js) p = play-turns First js (step g c (turn j First) p)
+  play-turns Second [] p = refl
+  play-turns Second (j ∷ js) p = play-turns Second js (step g c (turn j Second) p)
+
+  pub accepted-turns : (w : Wavelength) (js : List ℕ) (p : Floods) → accepted g c (turnsOn w js) p ≡ machine.accepted (g w) (c w) js (on w p)
+  unfolding accepted accepts busy machine.accepted
+  accepted-turns w [] p = refl
+  accepted-turns w (j ∷ js) p =
+      ap (λ (n : ℕ). bit (machine.accepts (g w) j (on w p)) + n)
+      (accepted-turns w js (step g c (turn j w) p) ∙ ap (machine.accepted (g w) (c w) js) (step-own w (turn j w) p (same-self w)))
 
   -- how many of wavelength w's own list are accepted
   abbrev pub acceptedOn : Wavelength → List Turn → Floods → ℕ
