@@ -1,11 +1,10 @@
 -- Demand 3 across a carry-over (02, request 3): old calls from a fresh old session on its mesh's plan, the carry-over, and calls of now behind it.
 -- Definitions only.
 use mathlib.Core.Path.{_≡_}
-use Prim.Native.Nat.{ℕ}
-use mathlib.Core.List.{List, [], _++_, map}
+use mathlib.Core.List.{List, [], _++_}
 use Rattle.mesh.specs.declared.Answer.the-variants.{Accepted}
 use Rattle.wavelengths.specs.declared.Wavelength.the-variants.{First, Second}
-use Rattle.wavelengths.specs.Merge.{turn}
+use Rattle.wavelengths.specs.Merge.{turnsOn}
 use Rattle.planner.specs.Plan.{planned}
 use Rattle.recovery.specs.declared.Session.{Session}
 use Rattle.legacy.specs.declared.OldMesh.{OldMesh}
@@ -42,7 +41,7 @@ module _ (m : OldMesh) (olds : List old.Call) where
 
   -- the cut that stands and the deliveries since, as the calls of now go on from them: all were on wavelength 1
   abbrev pub upgradedLog : Log
-  upgradedLog = record { cut = cutOf (oldLog .cut); made = map (λ (j : ℕ). turn j First) (oldLog .made) }
+  upgradedLog = record { cut = cutOf (oldLog .cut); made = turnsOn First (oldLog .made) }
 
   -- the calls of now that come to the same: the cut that stands, and a delivery on wavelength 1 for each made since
   abbrev pub replayed : List Call

@@ -241,7 +241,7 @@ module _ (m : Mesh) (p : Plan) where
 
   -- so it has made progress by them
   module _ (links : m .count ≤ 256) (nodes : m .nodes ≤ 64) (w : Wavelength) where
-    pub blank : Blank (graphs m p w) (on w (freshOnEach 256 64))
+    blank : Blank (graphs m p w) (on w (freshOnEach 256 64))
     blank = rw (fresh-on w 256 64) (fresh-blank (graphs m p w) 256 64 links nodes)
 
     module _ (strong : Strong g) {k : ℕ} {ts : List Turn} (q : Since k ts) where

@@ -1,20 +1,17 @@
 -- A planned mesh: the start on it and its plan is accepted, and after every list of calls the session is as the calls keep it and passes its record test.
 -- Assumes 256 entries in the mesh's list of links.
 use Prim.Native.Nat.{ℕ}
-use mathlib.Core.Path.{_≡_, refl, sym, subst, ap}
+use mathlib.Core.Path.{_≡_, sym, subst, ap, _∙_}
 use mathlib.Core.Bool.{not}
 use mathlib.Core.List.{List, _++_}
-use native.Mathlib.Omega.{arith}
 use lib.ListN.{length}
 use borrow.Author.Tests.{lt-leb}
-use Rattle.scan.specs.Test.{clash}
 use Rattle.flood.specs.Digraph.{Sound}
-use Rattle.flood.specs.Machine.{Blank}
 use Rattle.flood.specs.Path.{Strong}
 use Rattle.flood.specs.Laws.Progress.{Progress}
 use Rattle.wavelengths.specs.declared.Wavelength.{Wavelength}
 use Rattle.wavelengths.specs.Wavelength.{on}
-use Rattle.wavelengths.specs.Merge.{Turn, linksOn, freshOnEach}
+use Rattle.wavelengths.specs.Merge.{Turn, linksOn}
 use Rattle.mesh.specs.declared.Mesh.{Mesh}
 use Rattle.mesh.specs.declared.Plan.{Plan}
 use Rattle.mesh.specs.declared.Answer.the-variants.{Accepted}
@@ -22,12 +19,13 @@ use Rattle.mesh.specs.Mesh.{meshAnswer}
 use Rattle.mesh.specs.Laws.Checked.{Passes, passes}
 use Rattle.planner.specs.Plan.{planned}
 use Rattle.planner.specs.Laws.Meaning.{plan-checked}
-use Rattle.formed.specs.declared.Cut.the-variants.{Nothing, Link}
+use Rattle.formed.specs.declared.Cut.the-variants.{Link}
 use Rattle.recovery.specs.declared.Change.{Change}
 use Rattle.recovery.specs.declared.Session.{Session}
 use Rattle.recovery.specs.Formed.{recordAnswer}
 use Rattle.formed.specs.WellFormed.{PlanFormed}
 use Rattle.formed.specs.Laws.Forming.{cut-says, start-accepts}
+use Rattle.formed.specs.Laws.Fresh.{fresh-answer}
 use Rattle.recovery.specs.Calls.{freshOn, started}
 use Rattle.recovery.specs.Laws.Forming.{record-accepts}
 use Rattle.history.specs.History.{Call, after, answers}
@@ -74,12 +72,7 @@ module _ (m : Mesh) (accepted : planned m .answer ≡ Accepted) where
 
     -- what the calls keep passes the record test
     pub kept-record : {s : Session} {l : Log} → Kept m p s l → recordAnswer s ≡ Accepted
-    kept-record free = record-accepts (freshOn m p) checked plan-formed (cut-says m Nothing .0 refl) (λ w.
-        let blank : Blank (graphs m p w) (on w (freshOnEach 256 64)) = kept.blank m p (whole .count-most) (whole .nodes-most) w in
-        record {
-          states = record { most = λ i l. rw (blank .quiet i) (omega arith); zeros = λ i l b. blank .quiet i };
-          reached = λ v b t. clash t (blank .unreached v);
-        })
+    kept-record free = fresh-answer m p ∙ start-accepts m p checked plan-formed
     kept-record (under {k} {ts} q) = record-accepts (cutSession m p k (played m p k ts)) checked plan-formed (cut-says m (Link k) .0 (ap not (lt-leb (m .count) k (q .link)))) (λ w.
         let f = progress q w in
         record {
