@@ -76,7 +76,8 @@ resting s = machine.atRest (digraph s) (flood s)
 abbrev pub freshOn : OldMesh → OldPlan → OldSession
 freshOn m p = record { mesh = m; plan = p; cut = cuts.Nothing; flood = stored (machine.fresh 256 64) }
 
--- cut, delivery, mend and status of a link, and a run with an allowance, each with any number
+-- cut, delivery, mend and status of a link, and a run with an allowance, each with any number. A call on a session that the host lent left what its call by
+-- value returned, so that one form stands for both
 pub data Call : Type 0 where
   cut deliver mend status run : ℕ → Call
 

@@ -1,5 +1,4 @@
 -- What a carry-over gives (02, request 3): a session of now for one from before wavelength 2. Definitions only.
-use Prim.Native.Nat.{ℕ}
 use mathlib.Core.List.{map}
 use Rattle.mesh.specs.declared.Link.{Link}
 use Rattle.mesh.specs.declared.Mesh.{Mesh}
