@@ -1,5 +1,7 @@
 //! The expected listing of a corpus.
 
+#[cfg(test)]
+mod expected;
 pub mod scripts;
 
 use crate::book::{decode, encode, record};
