@@ -19,6 +19,7 @@ pub mod random_graphs;
 pub mod scripts;
 pub mod shapes;
 pub mod truncated;
+pub mod upgrades;
 pub mod wrong_meshes;
 pub mod wrong_plannings;
 pub mod wrong_records;
