@@ -3,12 +3,14 @@
 use crate::mesh::{Link, Mesh};
 use crate::reader::Reader;
 use crate::script::{read_script, write_script, Script};
+use crate::upgrade::{read_upgrade, write_upgrade, Upgrade};
 
 const BOOK: u8 = b'B';
 const MESH: u8 = b'M';
 const PLANNING: u8 = b'P';
 const SCRIPT: u8 = b'S';
 const LISTING: u8 = b'L';
+const UPGRADE: u8 = b'U';
 
 /// The greatest room of a case and the greatest length of its book.
 pub const MOST_BYTES: usize = 2_400;
@@ -26,6 +28,8 @@ pub enum Case {
     Script(Script),
     /// A book to list as the program meshplan does.
     Listing { book: Vec<u8> },
+    /// An old session carried over, and calls on what it becomes.
+    Upgrade(Box<Upgrade>),
 }
 
 /// The bytes of a corpus, one case after the other.
@@ -43,6 +47,10 @@ pub fn write_cases(cases: &[Case]) -> Vec<u8> {
             Case::Listing { book } => {
                 output.push(LISTING);
                 write_bytes(book, &mut output);
+            }
+            Case::Upgrade(upgrade) => {
+                output.push(UPGRADE);
+                write_upgrade(upgrade, &mut output);
             }
         }
     }
@@ -106,6 +114,7 @@ fn read_case(reader: &mut Reader) -> Option<Case> {
         PLANNING => read_planning(reader),
         SCRIPT => read_script(reader).map(Case::Script),
         LISTING => read_bytes(reader).map(|book| Case::Listing { book }),
+        UPGRADE => read_upgrade(reader).map(|upgrade| Case::Upgrade(Box::new(upgrade))),
         _ => None,
     }
 }

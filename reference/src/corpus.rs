@@ -19,6 +19,7 @@ pub mod random_graphs;
 pub mod scripts;
 pub mod shapes;
 pub mod truncated;
+pub mod upgrades;
 pub mod wrong_meshes;
 pub mod wrong_plannings;
 pub mod wrong_records;
@@ -28,7 +29,7 @@ use crate::case::Case;
 use crate::random::Random;
 
 /// All cases of the corpus: books first, then mesh records, then plannings,
-/// then scripts, then books to list.
+/// then scripts, then books to list, then old sessions.
 pub fn make(seed: u64) -> Vec<Case> {
     let mut random = Random::new(seed);
     let books = all_books(&mut random);
@@ -41,6 +42,7 @@ pub fn make(seed: u64) -> Vec<Case> {
     cases.extend(planning::cases(&mut random));
     cases.extend(scripts::cases(&mut random));
     cases.extend(listings::cases(&mut random));
+    cases.extend(upgrades::cases(seed));
     cases
 }
 

@@ -1,6 +1,9 @@
 //! The expected listing of a corpus.
 
+#[cfg(test)]
+mod expected;
 pub mod scripts;
+pub mod upgrades;
 
 use crate::book::{decode, encode, record};
 use crate::case::Case;
@@ -26,6 +29,7 @@ pub fn listing(cases: &[Case]) -> Result<String, String> {
             Case::Planning { mesh } => lines.planning(number, mesh)?,
             Case::Script(script) => lines.script(number, script),
             Case::Listing { book } => lines.listed(number, book),
+            Case::Upgrade(upgrade) => lines.upgrade(number, upgrade),
         }
     }
     Ok(lines.text)

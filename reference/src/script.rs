@@ -4,6 +4,8 @@ mod bytes;
 mod words;
 
 pub use bytes::{read_calls, read_script, write_calls, write_script};
+pub(crate) use bytes::{read_cut, read_directions, read_flood};
+pub(crate) use bytes::{write_cut, write_directions, write_flood};
 pub use words::calls_of;
 
 use crate::book::decode;
@@ -87,12 +89,10 @@ impl Origin {
 impl GivenSession {
     /// What makes this session from a mesh.
     pub fn of(session: &Session, mesh: &Mesh) -> GivenSession {
-        let directions = &session.plan.directions;
-        let last = directions.iter().rposition(|direction| *direction != 0);
         let links = (0..=255).zip(session.mesh.links);
         let differs = |(index, link): &(u8, Link)| *link != mesh.links[usize::from(*index)];
         GivenSession {
-            directions: directions[..last.map_or(0, |last| last + 1)].to_vec(),
+            directions: given_directions(&session.plan.directions),
             cut: session.cut,
             floods: session.floods.both().map(GivenFlood::of),
             links: links.filter(differs).collect(),
@@ -119,7 +119,7 @@ impl GivenSession {
 }
 
 impl GivenFlood {
-    fn of(flood: &Flood) -> GivenFlood {
+    pub fn of(flood: &Flood) -> GivenFlood {
         let states = (0..=255).zip(flood.states);
         let reached = (0..).zip(flood.reached);
         GivenFlood {
@@ -128,7 +128,7 @@ impl GivenFlood {
         }
     }
 
-    fn flood(&self) -> Flood {
+    pub fn flood(&self) -> Flood {
         let mut flood = Flood::FRESH;
         for (index, state) in &self.states {
             flood.states[usize::from(*index)] = *state;
@@ -140,8 +140,14 @@ impl GivenFlood {
     }
 }
 
+/// The directions up to the last that is not 0.
+pub(crate) fn given_directions(directions: &[u8; MOST_LINKS]) -> Vec<u8> {
+    let last = directions.iter().rposition(|direction| *direction != 0);
+    directions[..last.map_or(0, |last| last + 1)].to_vec()
+}
+
 /// The plan with these directions, at most 256, and zeros past them.
-fn plan_of(directions: &[u8]) -> Plan {
+pub(crate) fn plan_of(directions: &[u8]) -> Plan {
     let mut all = [0; MOST_LINKS];
     all[..directions.len()].copy_from_slice(directions);
     Plan { directions: all }

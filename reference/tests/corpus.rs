@@ -15,8 +15,8 @@ struct Part {
     listing: String,
 }
 
-/// Books, mesh records, plannings, scripts, books to list.
-type Parts = [Part; 5];
+/// Books, mesh records, plannings, scripts, books to list, old sessions.
+type Parts = [Part; 6];
 
 fn kind(case: &Case) -> usize {
     match case {
@@ -25,6 +25,7 @@ fn kind(case: &Case) -> usize {
         Case::Planning { .. } => 2,
         Case::Script(_) => 3,
         Case::Listing { .. } => 4,
+        Case::Upgrade(_) => 5,
     }
 }
 
@@ -35,7 +36,7 @@ fn corpora() -> &'static [Parts] {
 }
 
 fn parts(cases: &[Case]) -> Parts {
-    [0, 1, 2, 3, 4].map(|number| {
+    [0, 1, 2, 3, 4, 5].map(|number| {
         let of_kind = cases.iter().filter(|case| kind(case) == number);
         let cases: Vec<Case> = of_kind.cloned().collect();
         let listing = listing(&cases).expect("both methods of planning agree");
@@ -97,6 +98,29 @@ fn an_ill_formed_corpus_is_an_error() {
 }
 
 #[test]
+fn an_ill_formed_old_session_of_a_corpus_is_an_error() {
+    let upgrade = |directions: usize, reached: u8| {
+        let count = (directions as u16).to_le_bytes();
+        let cut_and_flood = [255, 255, 0, 0, 1, reached];
+        let parts = [
+            &[b'U', 2, 0, 0, 0, 0][..],
+            &count,
+            &vec![0; directions],
+            &cut_and_flood,
+            &[0, 0],
+        ];
+        parts.concat()
+    };
+    let good = upgrade(256, 63);
+    assert!(read_cases(&good).is_ok());
+    for length in 1..good.len() {
+        assert!(read_cases(&good[..length]).is_err());
+    }
+    assert!(read_cases(&upgrade(257, 63)).is_err());
+    assert!(read_cases(&upgrade(256, 64)).is_err());
+}
+
+#[test]
 fn each_kind_stands_together() {
     for seed in SEEDS {
         let cases = corpus::make(seed);
@@ -106,10 +130,12 @@ fn each_kind_stands_together() {
 
 #[test]
 fn counts_and_sizes() {
-    // Books, mesh records, plannings, scripts, books to list.
-    let fewest = [2_400, 2_000, 3_000, 4_500, 1_300];
-    let most_bytes = [400_000, 250_000, 500_000, 1_300_000, 250_000];
-    let longest_listings = [1_600_000, 600_000, 400_000, 10_000_000, 1_800_000];
+    // Books, mesh records, plannings, scripts, books to list, old sessions.
+    let fewest = [2_400, 2_000, 3_000, 4_500, 1_300, 550];
+    let most_bytes = [400_000, 250_000, 500_000, 1_300_000, 250_000, 300_000];
+    let longest_listings = [
+        1_600_000, 600_000, 400_000, 10_000_000, 1_800_000, 1_550_000,
+    ];
     for parts in corpora() {
         for (number, part) in parts.iter().enumerate() {
             assert!(part.cases.len() >= fewest[number]);
@@ -117,9 +143,9 @@ fn counts_and_sizes() {
             assert!(part.listing.len() < longest_listings[number]);
         }
         let bytes = parts.iter().map(|part| write_cases(&part.cases).len());
-        assert!(bytes.sum::<usize>() < 2_200_000);
+        assert!(bytes.sum::<usize>() < 2_500_000);
         let listings = parts.iter().map(|part| part.listing.len());
-        assert!(listings.sum::<usize>() < 13_800_000);
+        assert!(listings.sum::<usize>() < 15_300_000);
     }
 }
 
@@ -132,6 +158,7 @@ fn rooms_and_books_are_within_the_limit() {
             Case::Planning { .. } => (0, 0),
             Case::Script(script) => (0, script.book.len()),
             Case::Listing { book } => (0, book.len()),
+            Case::Upgrade(_) => (0, 0),
         };
         assert!(usize::from(room) <= MOST_BYTES);
         assert!(length <= MOST_BYTES);
@@ -151,6 +178,7 @@ fn every_refusal_is_met() {
         assert_eq!(refusals(parts, "write"), mesh_and(&[11]));
         assert_eq!(refusals(parts, "plan"), mesh_and(&[20, 21]));
         assert_eq!(refusals(parts, "start"), mesh_and(&[]));
+        assert_eq!(refusals(parts, "carry-over"), mesh_and(&[]));
         let plannings = &parts[2].listing;
         assert!(count_lines(plannings, "plan accepted") >= 1_100);
         assert!(count_lines(plannings, "plan refused 20 ") >= 500);
@@ -160,7 +188,7 @@ fn every_refusal_is_met() {
 
 #[test]
 fn every_refusal_of_a_listing_is_met() {
-    for [.., part] in corpora() {
+    for [_, _, _, _, part, _] in corpora() {
         let lines = part.listing.lines();
         let refused = lines.filter_map(|line| line.strip_prefix("refused "));
         let numbers = refused.map(|rest| rest.split(' ').next().unwrap().parse().unwrap());
@@ -193,7 +221,7 @@ fn every_refusal_of_a_session_is_met() {
         ("run", &[23]),
         ("route", &[14, 23]),
     ];
-    for [_, _, _, scripts, _] in corpora() {
+    for [_, _, _, scripts, ..] in corpora() {
         for (word, own) in calls {
             let expected = record.iter().chain(own).copied().collect();
             assert_eq!(script_refusals(&scripts.listing, word), expected, "{word}");
@@ -205,10 +233,30 @@ fn every_refusal_of_a_session_is_met() {
 }
 
 #[test]
+fn every_refusal_after_a_carry_over_is_met() {
+    // All zeros are 3.
+    let calls: [(&str, &[u8]); 6] = [
+        ("cut", &[3, 12, 22]),
+        ("deliver", &[3, 12, 14, 23, 24]),
+        ("mend", &[3, 12, 23, 25, 26]),
+        ("status", &[3, 12, 14]),
+        ("run", &[3, 23]),
+        ("route", &[3, 14, 23]),
+    ];
+    for [.., upgrades] in corpora() {
+        for (word, expected) in calls {
+            let expected = expected.iter().copied().collect();
+            let met = script_refusals(&upgrades.listing, word);
+            assert_eq!(met, expected, "{word}");
+        }
+    }
+}
+
+#[test]
 fn every_mesh_on_5_nodes_is_planned_and_each_planned_one_is_listed() {
     // So many graphs on 5 nodes are whole, and whole without any one link.
     let planned = 253;
-    for [_, _, plannings, _, listings] in corpora() {
+    for [_, _, plannings, _, listings, _] in corpora() {
         let lines: Vec<&str> = plannings.listing.lines().collect();
         let on_5_nodes = |case: &&[&str]| case[0].split(' ').nth(2) == Some("5");
         let cases: Vec<&[&str]> = lines.chunks(4).filter(on_5_nodes).collect();
@@ -242,7 +290,7 @@ fn of_cut(line: &str) -> Option<&str> {
 
 #[test]
 fn route_lengths_are_known_and_not_known() {
-    for [_, _, _, scripts, listings] in corpora() {
+    for [_, _, _, scripts, listings, _] in corpora() {
         let lengths = scripts.listing.lines().filter_map(of_status);
         let (known, not_known) = known_and_not_known(lengths);
         assert!(known >= 1_000 && not_known >= 1_000, "{known} {not_known}");
@@ -255,7 +303,7 @@ fn route_lengths_are_known_and_not_known() {
 
 #[test]
 fn four_lists_have_thousands_of_calls() {
-    for [_, _, _, scripts, _] in corpora() {
+    for [_, _, _, scripts, ..] in corpora() {
         let is_long = |case: &&Case| match case {
             Case::Script(script) => script.calls.len() >= 4_000,
             _ => false,

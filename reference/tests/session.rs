@@ -1,6 +1,9 @@
 //! The recovery machine: the document's examples, the orders of refusals, and
 //! what holds of every flood on a planned mesh.
 
+mod path;
+
+use path::{assert_one_path, taken};
 use reference::book::decode;
 use reference::corpus::meshes::plain;
 use reference::corpus::scripts::examples::P6_TURNS;
@@ -37,10 +40,6 @@ fn links_in(session: &Session, wavelength: Wavelength, chosen: impl Fn(u8) -> bo
     let numbered = (0..).zip(session.floods[wavelength].states);
     let chosen = numbered.filter(|(_, state)| chosen(*state));
     chosen.map(|(link, _)| link).collect()
-}
-
-fn taken(session: &Session, wavelength: Wavelength) -> Vec<u16> {
-    links_in(session, wavelength, |state| state == TAKEN)
 }
 
 /// Every link under way with its wavelength.
@@ -280,27 +279,16 @@ fn the_route_of_a_circle_of_taken_links_ends_after_as_many_links_as_there_are() 
     assert_eq!((status.busy, status.route), (0, RouteLength::Metres(0)));
 }
 
-/// All links taken on the wavelength stand in a row from x to y, and no node is
-/// met twice.
+/// The wavelength has one simple path, and its status shows the path's length
+/// at rest.
 fn assert_route(session: &Session, wavelength: Wavelength, cut: u16) {
-    let (x, y) = session.primary_arc(wavelength, cut);
-    let mut route = session.route(wavelength.number()).unwrap();
-    let mut met = vec![x];
-    for link in &route {
-        let (end, begin) = session.primary_arc(wavelength, *link);
-        assert_eq!(met.last(), Some(&begin));
-        assert!(!met.contains(&end));
-        met.push(end);
-    }
-    assert_eq!(met.last(), Some(&y));
+    let route = assert_one_path(session, wavelength, cut);
     let length = match session.is_at_rest() {
         true => length_of(session, &route),
         false => RouteLength::Metres(0),
     };
     let status = session.status(cut, wavelength.number()).unwrap();
     assert_eq!(status.route, length);
-    route.sort_unstable();
-    assert_eq!(taken(session, wavelength), route);
 }
 
 /// The lengths of these links together, as 02 says it.

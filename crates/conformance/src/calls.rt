@@ -21,12 +21,16 @@ use streams::print::line;
 pub(crate) fn run_script(case: u64) {
     let m = read_mesh();
     line(b"script", case);
-    let s = first_session(m);
+    run_list(first_session(m));
+}
+
+// The calls that come next, and both copies of the session at the end.
+pub(crate) fn run_list(s: Session) {
     let copies = run_calls(s, next_two(), true);
     let by_value = copies.by_value;
-    show_end(by_value, false);
+    show_whole(by_value, false);
     let in_place = copies.in_place;
-    show_end(in_place, true);
+    show_whole(in_place, true);
 }
 
 // The mesh of the book that comes next.
@@ -61,8 +65,8 @@ pub(crate) fn started(m: Mesh, plan: Plan) -> Session {
     c.session
 }
 
-// The session at the end: 256 states, and the digest of its mesh and plan.
-fn show_end(s: Session, lent: bool) {
+// The session: 256 states of each wavelength, and the digest of its mesh and plan.
+pub(crate) fn show_whole(s: Session, lent: bool) {
     show_session(s, lent, 256);
     form(lent);
     show_digest(s);

@@ -1,7 +1,8 @@
-// One case of the corpus: a book, a book to list, a mesh record, a mesh to plan, or a script.
+// One case of the corpus: a book, a book to list, a mesh record, a mesh to plan, a script, or an old session.
 use crate::book::run_book;
 use crate::book::run_listed;
 use crate::calls::run_script;
+use crate::old_session::run_upgrade;
 use crate::planning::run_planning;
 use crate::record::run_mesh;
 use libc::STDIN_FILENO;
@@ -22,6 +23,7 @@ fn run_kind(kind: u8, case: u64) -> bool {
         b'M' => run_mesh(case),
         b'P' => run_planning(case),
         b'S' => run_script(case),
+        b'U' => run_upgrade(case),
         _ => return false,
     }
     true

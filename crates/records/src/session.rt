@@ -31,7 +31,7 @@ pub fn read_session(m: Mesh) -> Session {
 }
 
 // The states and the reached nodes of one wavelength.
-fn read_flood() -> Flood {
+pub(crate) fn read_flood() -> Flood {
     let mut states = [0u8; 256];
     read_states(&mut states, next_two());
     let mut reached = [false; 64];
@@ -54,7 +54,7 @@ fn read_directions(directions: &mut [u8], count: u16) {
     }
 }
 
-fn read_cut() -> Cut {
+pub(crate) fn read_cut() -> Cut {
     let k = next_two();
     if k == 65535 {
         Cut::Nothing

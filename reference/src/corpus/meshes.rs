@@ -50,6 +50,13 @@ pub fn plain(nodes: u8, shape: &[(u8, u8)]) -> Mesh {
     filled(nodes, shape, Fill::None, &mut Random::new(0))
 }
 
+/// The mesh with random lengths and fibre pairs on all of its links.
+pub fn all_filled(mesh: &Mesh, random: &mut Random) -> Mesh {
+    let links = mesh.counted().iter();
+    let shape: Vec<(u8, u8)> = links.map(|link| (link.low, link.high)).collect();
+    filled(mesh.nodes, &shape, Fill::All, random)
+}
+
 /// The mesh with other lengths: that of each link by its number.
 pub fn with_lengths(mesh: &Mesh, mut length: impl FnMut(usize) -> u16) -> Mesh {
     let mut mesh = mesh.clone();

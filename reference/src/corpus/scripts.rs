@@ -9,6 +9,7 @@ pub mod ill_formed;
 pub mod lengths;
 pub mod lists;
 pub mod long_lists;
+pub mod numbers;
 pub mod odd;
 pub mod odd_lengths;
 pub mod plans;

@@ -12,22 +12,31 @@ const IN_PLACE: &str = "in-place ";
 impl Lines {
     pub fn script(&mut self, number: usize, script: &Script) {
         self.line(&format!("script {number}"));
-        let (mut session, answer) = script.begin();
+        let (session, answer) = script.begin();
         if let Some(answer) = answer {
             self.answer("start", answer);
         }
+        self.calls(session, &script.calls);
+    }
+
+    /// Each call, by value and in place, and both sessions at the end.
+    pub fn calls(&mut self, mut session: Session, calls: &[Call]) {
         let mut lent = session.clone();
-        for call in &script.calls {
+        for call in calls {
             self.line(&call_line(&mut session, *call));
             self.line(&format!("{IN_PLACE}{}", call_line(&mut lent, *call)));
         }
-        for (form, session) in [("", session), (IN_PLACE, lent)] {
-            self.session(form, &session, MOST_LINKS);
-            self.digest(form, &session);
-        }
+        self.whole_session("", &session);
+        self.whole_session(IN_PLACE, &lent);
     }
 
-    /// The session at the end, with so many states.
+    /// The session with all states, and its digest.
+    pub fn whole_session(&mut self, form: &str, session: &Session) {
+        self.session(form, session, MOST_LINKS);
+        self.digest(form, session);
+    }
+
+    /// The session with so many states.
     pub fn session(&mut self, form: &str, session: &Session, links: usize) {
         match session.cut {
             None => self.line(&format!("{form}cut none")),
@@ -121,6 +130,7 @@ mod tests {
     use crate::case::Case;
     use crate::corpus::scripts::grounds::triangle;
     use crate::digest::digest;
+    use crate::listing::expected::{in_place, session, twice};
     use crate::listing::listing;
     use crate::mesh::Mesh;
     use crate::plan::Plan;
@@ -136,29 +146,10 @@ mod tests {
         listing(&[Case::Script(script)]).unwrap()
     }
 
-    /// The lines before the calls, then each call's line by value and in place, then the session's lines likewise.
-    fn both(before: &str, calls: &str, session: &str, digest: u64) -> String {
-        let again = |lines: &str| -> String {
-            lines
-                .lines()
-                .map(|line| format!("in-place {line}\n"))
-                .collect()
-        };
-        let calls: String = calls
-            .lines()
-            .map(|line| format!("{line}\n{}", again(line)))
-            .collect();
-        let session = format!("{session}digest {digest}\n");
-        format!("{before}{calls}{session}{}", again(&session))
-    }
-
-    /// A session's lines before its digest: the states and the reached nodes of
-    /// each wavelength.
-    fn state(cut: &str, [first, second]: [(&str, &str); 2]) -> String {
-        let lines = |number, (states, reached): (&str, &str)| {
-            format!("states {number} {states:0<256}\nreached {number}{reached}\n")
-        };
-        format!("{cut}\n{}{}", lines(1, first), lines(2, second))
+    /// The lines before the calls, then the calls' lines and the session's, by
+    /// value and in place.
+    fn both(before: &str, calls: &str, session: &str) -> String {
+        format!("{before}{}{session}{}", twice(calls), in_place(session))
     }
 
     /// The digest of the triangle and these directions.
@@ -202,8 +193,9 @@ mod tests {
             run 100 made 2 rest\nstatus 2 1 state 2 busy 0 route -\n\
             status 2 2 state 2 busy 0 route -\nroute 2 accepted 2 1\n\
             route 0 refused 14 0\ndeliver 2 255 refused 14 0\nmend 3 refused 12 3\n";
-        let session = state("cut-is 0", [("022", " 0 1 2"), ("022", " 0 1 2")]);
-        let expected = both(before, lines, &session, of_triangle(&[0, 1, 0]));
+        let digest = of_triangle(&[0, 1, 0]);
+        let end = session("cut-is 0", [("022", " 0 1 2"), ("022", " 0 1 2")], digest);
+        let expected = both(before, lines, &end);
         assert_eq!(listed(Origin::OwnPlan, calls), expected);
     }
 
@@ -212,9 +204,9 @@ mod tests {
         let calls = vec![Call::Run(7), Call::Route(0), Call::Deliver(0, 1)];
         let before = "script 0\nstart refused 13 0\n";
         let lines = "run 7 refused 3 0\nroute 0 refused 3 0\ndeliver 0 1 refused 3 0\n";
-        let session = state("cut none", [("", ""), ("", "")]);
-        let zero = digest(&Mesh::ZERO, &Plan::ZERO);
-        let expected = both(before, lines, &session, zero);
+        let digest = digest(&Mesh::ZERO, &Plan::ZERO);
+        let end = session("cut none", [("", ""), ("", "")], digest);
+        let expected = both(before, lines, &end);
         assert_eq!(listed(Origin::GivenPlan(vec![0, 2]), calls), expected);
     }
 
@@ -238,8 +230,9 @@ mod tests {
         };
         let origin = Origin::GivenSession(Box::new(given));
         let lines = "status 9 2 refused 13 0\n";
-        let session = state("cut-is 65534", [("04?", " 2 63"), ("3", " 1")]);
-        let expected = both("script 0\n", lines, &session, of_triangle(&[1]));
+        let digest = of_triangle(&[1]);
+        let end = session("cut-is 65534", [("04?", " 2 63"), ("3", " 1")], digest);
+        let expected = both("script 0\n", lines, &end);
         assert_eq!(listed(origin, vec![Call::Status(9, 2)]), expected);
     }
 }

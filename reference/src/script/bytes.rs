@@ -43,14 +43,18 @@ pub fn write_calls(calls: &[Call], output: &mut Vec<u8>) {
     }
 }
 
-fn write_directions(directions: &[u8], output: &mut Vec<u8>) {
+pub fn write_directions(directions: &[u8], output: &mut Vec<u8>) {
     output.extend((directions.len() as u16).to_le_bytes());
     output.extend(directions);
 }
 
+pub fn write_cut(cut: Option<u16>, output: &mut Vec<u8>) {
+    output.extend(cut.unwrap_or(NO_CUT).to_le_bytes());
+}
+
 fn write_session(given: &GivenSession, output: &mut Vec<u8>) {
     write_directions(&given.directions, output);
-    output.extend(given.cut.unwrap_or(NO_CUT).to_le_bytes());
+    write_cut(given.cut, output);
     for flood in &given.floods {
         write_flood(flood, output);
     }
@@ -64,7 +68,7 @@ fn write_session(given: &GivenSession, output: &mut Vec<u8>) {
     output.extend(given.count.to_le_bytes());
 }
 
-fn write_flood(flood: &GivenFlood, output: &mut Vec<u8>) {
+pub fn write_flood(flood: &GivenFlood, output: &mut Vec<u8>) {
     output.extend((flood.states.len() as u16).to_le_bytes());
     for (index, state) in &flood.states {
         output.extend([index, state]);
@@ -119,15 +123,21 @@ pub fn read_calls(reader: &mut Reader) -> Option<Vec<Call>> {
     (0..count).map(|_| read_call(reader)).collect()
 }
 
-fn read_directions(reader: &mut Reader) -> Option<Vec<u8>> {
+/// None if there are more than 256.
+pub fn read_directions(reader: &mut Reader) -> Option<Vec<u8>> {
     let count = usize::from(reader.two()?);
     let directions = reader.take(count)?.to_vec();
     (count <= MOST_LINKS).then_some(directions)
 }
 
+/// The inner option is none where the bytes say that there is no cut.
+pub fn read_cut(reader: &mut Reader) -> Option<Option<u16>> {
+    Some(Some(reader.two()?).filter(|cut| *cut != NO_CUT))
+}
+
 fn read_session(reader: &mut Reader) -> Option<GivenSession> {
     let directions = read_directions(reader)?;
-    let cut = Some(reader.two()?).filter(|cut| *cut != NO_CUT);
+    let cut = read_cut(reader)?;
     let floods = [read_flood(reader)?, read_flood(reader)?];
     let count = reader.one()?;
     let links: Option<Vec<(u8, Link)>> = (0..count).map(|_| read_link(reader)).collect();
@@ -141,7 +151,8 @@ fn read_session(reader: &mut Reader) -> Option<GivenSession> {
     })
 }
 
-fn read_flood(reader: &mut Reader) -> Option<GivenFlood> {
+/// None if a reached node is not below 64.
+pub fn read_flood(reader: &mut Reader) -> Option<GivenFlood> {
     let count = reader.two()?;
     let states: Option<Vec<(u8, u8)>> = (0..count).map(|_| read_state(reader)).collect();
     let states = states?;

@@ -1,5 +1,6 @@
 //! Writes a script while it makes the script's calls.
 
+use super::numbers;
 use crate::book::bytes_of;
 use crate::mesh::Mesh;
 use crate::random::Random;
@@ -58,20 +59,12 @@ impl<'a> Caller<'a> {
 
     /// A link below L; 0 where there is none.
     pub fn inner_link(&mut self) -> u16 {
-        let count = usize::from(self.session.mesh.count);
-        self.random.below(count.max(1)) as u16
+        numbers::inner_link(self.session.mesh.count, self.random)
     }
 
     /// A link number, mostly below L.
     pub fn link(&mut self) -> u16 {
-        let count = self.session.mesh.count;
-        match self.random.below(24) {
-            0 => count,
-            1 => count.saturating_add(1),
-            2 => 256,
-            3 => 65_535,
-            _ => self.inner_link(),
-        }
+        numbers::link(self.session.mesh.count, self.random)
     }
 
     /// 1 or 2.
@@ -112,13 +105,7 @@ impl<'a> Caller<'a> {
     }
 
     pub fn allowance(&mut self) -> u32 {
-        match self.random.below(8) {
-            0 => 0,
-            1 | 2 => 1,
-            3 | 4 => self.random.between(2, 6) as u32,
-            5 => self.random.pick(&[7, 20, 255, 256, 65_536, 1 << 31]),
-            _ => u32::MAX,
-        }
+        numbers::allowance(self.random)
     }
 
     /// A delivery, mostly on a link under way.

@@ -9,7 +9,7 @@ use crate::script::{Call, Script};
 use crate::session::{start, Flood, Session, Wavelength};
 
 /// The states to choose from, those named more than once more often.
-const STATES: [&[u8]; 6] = [
+pub const STATES: [&[u8]; 6] = [
     &[0, 1, 2, 3, 4],
     &[0, 2, 4],
     &[2],
@@ -46,21 +46,26 @@ fn states_of(turn: usize) -> [&'static [u8]; 2] {
 
 /// Random floods, on the mesh's plan or a random one.
 fn session(mesh: &Mesh, states: [&[u8]; 2], random: &mut Random) -> Session {
-    let count = mesh.counted().len();
-    let mut plan = plan(mesh).0;
-    if random.below(3) == 0 {
-        plan = Plan::ZERO;
-        plan.directions[..count].fill_with(|| random.below(2) as u8);
-    }
-    let (mut session, _) = start(mesh, &plan);
+    let (mut session, _) = start(mesh, &some_plan(mesh, random));
     for (wavelength, states) in Wavelength::BOTH.into_iter().zip(states) {
         session.floods[wavelength] = flood(mesh, states, random);
     }
     session
 }
 
+/// The mesh's plan or, one time in three, a random one.
+pub fn some_plan(mesh: &Mesh, random: &mut Random) -> Plan {
+    let mut plan = plan(mesh).0;
+    if random.below(3) == 0 {
+        plan = Plan::ZERO;
+        let directions = &mut plan.directions[..mesh.count.into()];
+        directions.fill_with(|| random.below(2) as u8);
+    }
+    plan
+}
+
 /// Random states and reached nodes.
-fn flood(mesh: &Mesh, states: &[u8], random: &mut Random) -> Flood {
+pub fn flood(mesh: &Mesh, states: &[u8], random: &mut Random) -> Flood {
     let mut flood = Flood::FRESH;
     let links = &mut flood.states[..mesh.counted().len()];
     links.fill_with(|| random.pick(states));
