@@ -1,10 +1,12 @@
 // Where the lists of demand 3 begin, and what one cut leads to.
 ghost use mathlib.Core.Path.{_≡_};
 ghost use Rattle.recovery.specs.Calls.{started, routed};
+ghost use Rattle.upgrade.specs.Carried.{carried};
 ghost use Rattle.history.specs.Demand.{Sized};
 ghost use Rattle.clients.specs.Sessions.{begun, recovered};
 use crate::Begun;
 use crate::Recovered;
+use legacy::OldSession;
 use mesh::Mesh;
 use mesh::Plan;
 use recovery::Change;
@@ -23,6 +25,13 @@ pub fn start(m: Mesh, plan: Plan) -> Change
     ensures { λ r. ⌜ r ≡ started m plan ⌝ }
 {
     Session::start(m, plan)
+}
+
+// A carry-over of any session from before wavelength 2.
+pub fn carry_over(old: OldSession) -> Change
+    ensures { λ r. ⌜ r ≡ carried old ⌝ }
+{
+    upgrade::carry_over(old)
 }
 
 // The route query on any session and wavelength.

@@ -55,13 +55,17 @@ use Rattle.legacy.specs.Record as oldTest
 use Rattle.legacy.specs.WellFormed as oldRecord
 use Rattle.legacy.specs.Calls as oldCalls
 use Rattle.legacy.specs.Bench as oldRows
-use Rattle.legacy.specs.Laws.Computed.{computed}
+use Rattle.legacy.specs.Laws.Computed as oldComputed
+use Rattle.legacy.specs.Laws.Refused.{call-refused}
 use Rattle.upgrade.specs.Carried.{carried}
+use Rattle.upgrade.specs.Meaning.{Keeps}
 use Rattle.upgrade.specs.Laws.Forming as oldForming
-use Rattle.upgrade.specs.Laws.Carried.{refused-as-start, carried-passes, route-kept}
+use Rattle.upgrade.specs.Laws.Carried.{refused-as-start, carried-keeps, carried-passes, route-kept}
 use Rattle.carried.specs.Demand.{Planned, CarriedOver, Replays}
+use Rattle.carried.specs.Bench as carriedRows
 use Rattle.carried.specs.Laws.Demand.{demand-carried}
 use Rattle.carried.specs.Laws.Replayed.{replayed-same}
+use Rattle.carried.specs.Laws.Computed as carriedComputed
 use Rattle.guarantees.specs.Bench.{Row, table, Holds}
 use Rattle.guarantees.specs.Laws.Computed.{row-holds}
 
@@ -236,13 +240,22 @@ pub old-record-refuses : (s : OldSession) → oldRecord.InRange (s .mesh) → (n
     → oldTest.recordAnswer s ≡ Refused number place → oldRecord.Refusal s number place
 old-record-refuses s r number place = oldForming.refused-record s r
 
--- a carry-over is refused just so, and gives then what every refused start gives
+-- every call from before wavelength 2 was refused just so
+pub old-call-refuses : (s : OldSession) (number place : ℕ) → oldTest.recordAnswer s ≡ Refused number place
+    → (c : oldCalls.Call) → oldCalls.answer c s ≡ Refused number place
+old-call-refuses s number place = call-refused s
+
+-- and so is a carry-over, which gives then what every refused start gives
 pub carry-over-refuses : (s : OldSession) (number place : ℕ) → oldTest.recordAnswer s ≡ Refused number place
     → (carried s .answer ≡ Refused number place)
     × ((m : Mesh) (p : Plan) (n q : ℕ) → startAnswer m p ≡ Refused n q → carried s .session ≡ started m p .session)
 carry-over-refuses s number place = refused-as-start s
 
--- else it is accepted, and what it gives passes its own record test, whatever led to the old session
+-- else it is accepted: mesh, plan, cut and wavelength 1 are the old ones, and wavelength 2 is as in a fresh session or as just after the cut that stands
+pub carry-over-keeps : (s : OldSession) → oldTest.recordAnswer s ≡ Accepted → Keeps s (carried s .session)
+carry-over-keeps = carried-keeps
+
+-- what it gives passes its own record test, whatever led to the old session
 pub carry-over-passes : (s : OldSession) → oldRecord.InRange (s .mesh) → oldTest.recordAnswer s ≡ Accepted
     → (carried s .answer ≡ Accepted) × (recordAnswer (carried s .session) ≡ Accepted)
 carry-over-passes = carried-passes
@@ -258,7 +271,7 @@ pub demand-three-carried : (m : OldMesh) → oldRecord.InRange m → Planned m �
 demand-three-carried = demand-carried
 
 -- and the session and the log are those of one list of calls of now from a start on that mesh and its plan: the cut that stands, a delivery on wavelength 1 for
--- each made since it, and the later calls. So every theorem above on such lists holds across a carry-over
+-- each made since it, and the later calls. So the theorems above on such lists speak of it too
 pub carry-over-replayed : (m : OldMesh) → oldRecord.InRange m → Planned m → (olds : List oldCalls.Call) (calls : List Call) → Replays m olds calls
 carry-over-replayed = replayed-same
 
@@ -272,4 +285,8 @@ bench = row-holds
 pub old-bench :
     (map oldRows.outcomeOf oldRows.table ≡ map (λ (r : oldRows.Row). r .outcome) oldRows.table)
     × (map oldRows.answerTo oldRows.questions ≡ map (λ (q : oldRows.Question). q .answered) oldRows.questions)
-old-bench = computed
+old-bench = oldComputed.computed
+
+-- P7 by these calls, on lengths and fibre pairs, carried over and let run: the route and its length on each wavelength
+pub carried-bench : carriedRows.Holds
+carried-bench = carriedComputed.computed

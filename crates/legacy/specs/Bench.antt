@@ -53,7 +53,7 @@ outcomeOf r = record {
   route = routeOf (after (r .calls) (r .start));
 }
 
--- link k is cut, deliveries are made on these links, and the route is found
+-- link k is cut, deliveries are made on these links, and the route query gives these, none before rest
 abbrev recovers : ℕ → List ℕ → List ℕ → Outcome
 recovers k delivered route = record { log = record { cut = Link k; made = delivered }; answer = Accepted; route = route }
 
@@ -63,6 +63,8 @@ table =
     record { start = triangle; calls = cut 0 ∷ deliver 1 ∷ deliver 2 ∷ []; outcome = recovers 0 (1 ∷ 2 ∷ []) (1 ∷ 2 ∷ []) }
     -- P6
     ∷ record { start = fourNodes; calls = cut 4 ∷ run 4294967295 ∷ []; outcome = recovers 4 (1 ∷ 2 ∷ 3 ∷ 0 ∷ 0 ∷ 3 ∷ []) (1 ∷ 2 ∷ []) }
+    -- P6, with an allowance that ends it before rest
+    ∷ record { start = fourNodes; calls = cut 4 ∷ run 3 ∷ []; outcome = recovers 4 (1 ∷ 2 ∷ 3 ∷ []) [] }
     -- P7
     ∷ record {
       start = fourNodes;
@@ -105,7 +107,7 @@ mended = cut 4 ∷ run 6 ∷ mend 4 ∷ []
 abbrev pub questions : List Question
 questions =
     asked broken (cut 5) (Refused 12 5) ∷ asked broken (cut 3) (Refused 22 3) ∷ asked [] (cut 3) Accepted ∷ asked mended (cut 3) Accepted
-    ∷ asked [] (deliver 5) (Refused 12 5) ∷ asked [] (deliver 0) (Refused 23 0) ∷ asked broken (deliver 0) (Refused 24 0) ∷ asked broken (deliver 1) Accepted
+    ∷ asked [] (deliver 5) (Refused 12 5) ∷ asked [] (deliver 2) (Refused 23 2) ∷ asked broken (deliver 2) (Refused 24 2) ∷ asked broken (deliver 1) Accepted
     ∷ asked [] (run 6) (Refused 23 0) ∷ asked broken (run 0) Accepted
     ∷ asked [] (mend 5) (Refused 12 5) ∷ asked [] (mend 4) (Refused 23 4) ∷ asked broken (mend 1) (Refused 26 1) ∷ asked broken (mend 4) (Refused 25 4)
     ∷ asked rested (mend 4) Accepted ∷ asked mended (mend 4) (Refused 23 4)

@@ -1,6 +1,6 @@
 -- The first entries of an array made those of a function, and the loop that does it. Assumes nothing.
 use Prim.Native.Nat.{ℕ, _<_, _≤_, min}
-use mathlib.Core.Path.{_≡_, sym, _∙_}
+use mathlib.Core.Path.{_≡_, refl, sym, _∙_}
 use mathlib.Core.Bool.{cond}
 use mathlib.Core.List.{List}
 use native.Mathlib.Omega.{arith}
@@ -34,6 +34,10 @@ module _ (f : ℕ → ℕ) (links : ℕ) where
       each : (i : ℕ) → i < length l → Dec (i < n) → cond (ltb i n) (f i) (at l i) ≡ cond (ltb i links) (f i) (at l i)
       each i h (yes b) = rw (lt-ltb i n b, lt-ltb i links (omega arith))
       each i h (no b) = rw (le-ltb i n (omega arith), le-ltb i links (omega arith))
+
+  -- of an array of zeros
+  pub table-is : filled f (min links 256) (replicate 256 0) ≡ tableOf f links
+  table-is = fill-all (replicate 256 0) (min links 256) refl (omega arith) (omega arith)
 
   -- a filled entry
   pub table-filled : (i : ℕ) → i < links → i < 256 → at (tableOf f links) i ≡ f i

@@ -57,6 +57,12 @@ kept s = record {
 unfoldable pub carried : OldSession → Change
 carried s = change (recordAnswer s) zeroSession (kept s)
 
+-- ---- the calls that make it
+
+-- a session with another flood on wavelength 1
+abbrev pub withFirst : Session → Flood → Session
+withFirst s f = record { mesh = s .mesh; plan = s .plan; cut = s .cut; first = f; second = s .second }
+
 -- a session after the cut of a link that stands in an old one
 abbrev pub cutAgain : Session → OldCut → Session
 cutAgain s oldCuts.Nothing = s

@@ -9,11 +9,12 @@ use Rattle.legacy.specs.declared.OldMesh.{OldMesh}
 use Rattle.legacy.specs.WellFormed.{InRange}
 use Rattle.legacy.specs.Calls as old
 use Rattle.upgrade.specs.Carried.{meshOf}
+use Rattle.upgrade.specs.Laws.Checks.{mesh-sized}
 use Rattle.history.specs.History.{Call}
 use Rattle.history.specs.Demand.{seen, DemandFrom}
 use Rattle.history.specs.Laws.Recovered.{demand-from}
 use Rattle.carried.specs.Demand.{Planned, oldLog, upgradedLog, CarriedOver}
-use Rattle.carried.specs.Laws.Upgraded.{upgraded-kept, entries, upgraded-is}
+use Rattle.carried.specs.Laws.Upgraded.{upgraded-kept, upgraded-is}
 
 pub demand-carried : (m : OldMesh) → InRange m → Planned m → (olds : List old.Call) (calls : List Call) → CarriedOver m olds calls
 demand-carried m ranges good olds calls =
@@ -23,5 +24,5 @@ demand-carried m ranges good olds calls =
       first-before = links-turns First (oldLog m olds .made);
       second-before = links-turns-other Second First (oldLog m olds .made) refl;
       holds = subst (λ (r : Change). DemandFrom (meshOf m) (r .session) (seen (r .session)) (upgradedLog m olds) calls) (sym is)
-          (demand-from (meshOf m) (good .accepted) (entries m ranges) (upgraded-kept m olds) calls);
+          (demand-from (meshOf m) (good .accepted) (mesh-sized m ranges) (upgraded-kept m olds) calls);
     }

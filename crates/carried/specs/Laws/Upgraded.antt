@@ -2,7 +2,6 @@
 -- ranges of the old mesh's fields, which its types ensure.
 use mathlib.Core.Path.{_≡_, refl, subst, sym, _∙_}
 use mathlib.Core.List.{List, [], _∷_}
-use lib.ListN.{length, length-map}
 use Rattle.mesh.specs.declared.Plan.{Plan}
 use Rattle.mesh.specs.declared.Answer.{Answer}
 use Rattle.mesh.specs.declared.Answer.the-variants.{Accepted, Refused}
@@ -14,7 +13,8 @@ use Rattle.legacy.specs.WellFormed.{InRange}
 use Rattle.legacy.specs.Calls as old
 use Rattle.legacy.specs.Calls.{cut, deliver, mend, status, run}
 use Rattle.legacy.specs.History as oldLists
-use Rattle.upgrade.specs.Carried.{linkOf, meshOf, kept, carried}
+use Rattle.upgrade.specs.Carried.{meshOf, kept, carried}
+use Rattle.upgrade.specs.Laws.Checks.{mesh-sized}
 use Rattle.upgrade.specs.Laws.Carried.{carried-accepted, kept-tested}
 use Rattle.history.specs.Laws.Kept.{Kept, free}
 use Rattle.history.specs.Laws.Started.{kept-record}
@@ -45,9 +45,6 @@ after-mesh (c ∷ cs) s = after-mesh cs (old.next c s) ∙ next-mesh c s
 
 -- ---- the session carried over
 
-pub entries : (m : OldMesh) → InRange m → length (meshOf m .links) ≡ 256
-entries m ranges = length-map (m .links) linkOf ∙ ranges .entries
-
 module _ (m : OldMesh) (olds : List old.Call) where
   abbrev p : Plan
   p = planned (meshOf m) .plan
@@ -60,4 +57,4 @@ module _ (m : OldMesh) (olds : List old.Call) where
   pub upgraded-is : InRange m → Planned m → carried (oldEnded m olds) ≡ record { session = kept (oldEnded m olds); answer = Accepted }
   upgraded-is ranges good =
       let checked = subst (λ (n : OldMesh). meshAnswer n ≡ Accepted) (sym (after-mesh olds (oldStart m))) (good .checked) in
-      carried-accepted (oldEnded m olds) (kept-tested (oldEnded m olds) checked (kept-record (meshOf m) (good .accepted) (entries m ranges) upgraded-kept))
+      carried-accepted (oldEnded m olds) (kept-tested (oldEnded m olds) checked (kept-record (meshOf m) (good .accepted) (mesh-sized m ranges) upgraded-kept))

@@ -1,13 +1,9 @@
 -- `legacy::check` meets its contract: the checks on the parts of the mesh are the mesh checks, and each return rewrites with the answers that led there.
-use Prim.Native.Nat.{min}
-use mathlib.Core.Path.{_≡_, refl, sym, _∙_}
-use native.Mathlib.Omega.{arith}
-use lib.ListN.{replicate}
+use mathlib.Core.Path.{_≡_, sym, _∙_}
 use borrow.Author.Needs.{needs}
-use Rattle.scan.specs.Fill.{fill-all}
+use Rattle.scan.specs.Fill.{table-is}
 use Rattle.mesh.specs.Parts.{partsAnswer}
-use Rattle.legacy.specs.declared.OldMesh.{OldMesh}
-use Rattle.legacy.specs.Record.{link, endsOf, endsInto, endsIn, meshAnswer, recordAnswer}
+use Rattle.legacy.specs.Record.{link, endsOf, meshAnswer, recordAnswer}
 use Rattle.legacy.specs.WellFormed.{InRange}
 use Rattle.legacy.proofs.check.Statement.{statement}
 use Rattle.legacy.proofs.check.Tie as tie
@@ -15,16 +11,12 @@ use Rattle.legacy.proofs.check.Tie as tie
 abbrev begun : tie.After-parts-answer → tie.Start
 begun c = c .before .before .before .before .before
 
--- an array of zeros
-ends-in : (m : OldMesh) → endsInto m (replicate 256 0) ≡ endsIn m
-ends-in m = fill-all (λ i. endsOf (link m i)) (m .count) (replicate 256 0) (min (m .count) 256) refl (omega arith) (omega arith)
-
 answered : (c : tie.After-parts-answer) → c .parts-answer .result ≡ meshAnswer (begun c .args .s .mesh)
 unfolding meshAnswer
 answered c =
     let s = c .before .before .split .ensures in
     let m = begun c .args .s .mesh in
-    c .parts-answer .ensures ∙ (λ j. partsAnswer (m .nodes) (m .count) (s .0 j) ((s .1 .0 ∙ ends-in m) j))
+    c .parts-answer .ensures ∙ (λ j. partsAnswer (m .nodes) (m .count) (s .0 j) ((s .1 .0 ∙ table-is (λ i. endsOf (link m i)) (m .count)) j))
 
 ranges : (c : tie.After-parts-answer) → InRange (begun c .args .s .mesh)
 ranges c = c .before .before .split .ensures .1 .1

@@ -11,7 +11,7 @@ use lib.Dec.{lit<}
 use lib.ListN.{length, take, drop, replicate}
 use borrow.Author.Tests.{leb-true}
 use Rattle.scan.specs.Entry.{at}
-use Rattle.scan.specs.Fill.{fill-all, table-filled}
+use Rattle.scan.specs.Fill.{table-is, table-filled}
 use Rattle.ends.specs.Ends.{lowOf, highOf, Fits, Rising}
 use Rattle.mesh.specs.declared.Link.{Link}
 use Rattle.mesh.specs.declared.Mesh.{Mesh}
@@ -75,7 +75,7 @@ quick-accepted n k ends fit rise = from 0 k (omega arith)
 
 -- an array of zeros
 pub ends-in : (m : Mesh) → endsInto m (replicate 256 0) ≡ endsIn m
-ends-in m = fill-all (λ i. endsOf (link m i)) (m .count) (replicate 256 0) (min (m .count) 256) refl (omega arith) (omega arith)
+ends-in m = table-is (λ i. endsOf (link m i)) (m .count)
 
 -- the number of a link's ends tells them
 module _ (l : Link) (byte : l .high < 256) where

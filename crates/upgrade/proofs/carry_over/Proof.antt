@@ -2,20 +2,14 @@
 -- wavelength 1, which `carried-again` says is the one that is to be kept.
 use mathlib.Core.Path.{_≡_, sym, ap, _∙_}
 use borrow.Author.Needs.{needs}
-use Rattle.flood.specs.declared.Flood.{Flood}
-use Rattle.recovery.specs.declared.Session.{Session}
 use Rattle.recovery.specs.declared.Change.{Change}
 use Rattle.recovery.specs.Calls.{started}
 use Rattle.recovery.specs.Laws.Calls.{change-stops, change-goes}
 use Rattle.legacy.specs.declared.OldSession.{OldSession}
-use Rattle.upgrade.specs.Carried.{meshOf, planOf, cutAgain, carried}
+use Rattle.upgrade.specs.Carried.{meshOf, planOf, withFirst, cutAgain, carried}
 use Rattle.upgrade.specs.Laws.Carried.{carried-again}
 use Rattle.upgrade.proofs.carry_over.Statement.{statement}
 use Rattle.upgrade.proofs.carry_over.Tie as tie
-
--- the session with this flood on wavelength 1
-abbrev with-first : Session → Flood → Session
-with-first s f = record { mesh = s .mesh; plan = s .plan; cut = s .cut; first = f; second = s .second }
 
 abbrev given : tie.After-cut-again → OldSession
 given c = c .before .before .before .before .before .before .before .args .old
@@ -67,7 +61,7 @@ returns-2 c =
     let tested = told .before .before .check .ensures in
     let accepted = told .enum-told .given .1 in
     change-goes (tested .0) _ _ _ accepted
-    ((λ j. with-first (begun (c .before) j) (c .flood-of .ensures j)) ∙ carried-again (given (c .before)) (tested .1) (sym (tested .0) ∙ accepted))
+    ((λ j. withFirst (begun (c .before) j) (c .flood-of .ensures j)) ∙ carried-again (given (c .before)) (tested .1) (sym (tested .0) ∙ accepted))
 
 pub carry-over-spec : {M : Type 1} → statement M
 carry-over-spec =

@@ -1,5 +1,6 @@
 -- The carried-over session: what the carry-over gives where the old record is refused and where it is accepted; that wavelength 2 is as after a start and the
--- cut that stands; that it passes its own record test just where the old one passed its; and that the route query on wavelength 1 gives what it gave before.
+-- cut that stands; that it passes its own record test where the old one passed its, and the other way round where the old mesh is accepted; and that the route
+-- query on wavelength 1 gives what it gave before.
 -- Assumes the ranges of the old mesh's fields where the mesh of now is tested.
 use Prim.Native.Nat.{ℕ, _<_, _≤_}
 use mathlib.Core.Path.{_≡_, refl, sym, ap, _∙_}
@@ -10,6 +11,7 @@ use lib.Dec.{eqb}
 use borrow.Author.Tests.{lt-ltb}
 use Rattle.scan.specs.Test.{branch, clash, not-says, or-false}
 use Rattle.scan.specs.Entry.{at}
+use Rattle.flood.specs.declared.Flood.{Flood}
 use Rattle.flood.specs.Digraph.{Digraph}
 use Rattle.flood.specs.Digraph as failures
 use Rattle.flood.specs.Machine as machine
@@ -18,6 +20,7 @@ use Rattle.flood.specs.Topology.{routeFrom}
 use Rattle.flood.specs.Laws.Begin.{fresh-blank, begin-reached, begin-states, begin-at-most-1}
 use Rattle.wavelengths.specs.declared.Wavelength.the-variants.{First, Second}
 use Rattle.wavelengths.specs.Merge.{begin}
+use Rattle.mesh.specs.declared.Link.{Link}
 use Rattle.mesh.specs.declared.Mesh.{Mesh}
 use Rattle.mesh.specs.declared.Plan.{Plan}
 use Rattle.mesh.specs.declared.Answer.{Answer}
@@ -44,7 +47,8 @@ use Rattle.legacy.specs.Record as old
 use Rattle.legacy.specs.Record.{illFormed}
 use Rattle.legacy.specs.WellFormed.{InRange, Formed}
 use Rattle.legacy.specs.Calls as oldCalls
-use Rattle.upgrade.specs.Carried.{meshOf, planOf, cutOf, floodOf, secondOf, kept, carried, cutAgain}
+use Rattle.upgrade.specs.Carried.{meshOf, planOf, cutOf, floodOf, secondOf, kept, carried, withFirst, cutAgain}
+use Rattle.upgrade.specs.Meaning.{Keeps}
 use Rattle.upgrade.specs.Laws.Checks.{link-carried, mesh-accepts}
 use Rattle.upgrade.specs.Laws.Forming.{directionsFault, statesFault, cutFault, reachedFault, record-passed, record-formed}
 
@@ -69,6 +73,25 @@ module _ (s : OldSession) where
   refused-as-start e =
       let c = carried-refused e in
       (ap (λ (r : Change). r .answer) c, λ m p n q d. ap (λ (r : Change). r .session) c ∙ sym (ap (λ (a : Answer). change a zeroSession (freshOn m p) .session) d))
+
+  -- field by field
+  pub carried-keeps : old.recordAnswer s ≡ Accepted → Keeps s (carried s .session)
+  carried-keeps e = rw (carried-accepted e) (record {
+    nodes = refl;
+    count = refl;
+    low = λ i. ap (λ (l : Link). l .low) (link-carried (s .mesh) i);
+    high = λ i. ap (λ (l : Link). l .high) (link-carried (s .mesh) i);
+    length = λ i. ap (λ (l : Link). l .length) (link-carried (s .mesh) i);
+    pair = λ i. ap (λ (l : Link). l .pair) (link-carried (s .mesh) i);
+    directions = refl;
+    states = refl;
+    reached = refl;
+    with-none = λ c. (ap cutOf c, ap second c);
+    under-cut = λ k c. (ap cutOf c, ap second c);
+  })
+    where
+      second : OldCut → Flood
+      second c = secondOf (meshOf (s .mesh)) (planOf (s .plan)) (cutOf c)
 
 -- ---- the start and the cut once more
 
@@ -97,19 +120,17 @@ module _ (s : OldSession) (ranges : InRange (s .mesh)) (e : old.recordAnswer s �
   unfolding started
   start-fresh = ap (λ (a : Answer). change a zeroSession (freshOn m p)) start-accepted
 
-  -- a session with the old flood on wavelength 1
-  abbrev withOld : Session → Session
-  withOld t = record { mesh = t .mesh; plan = t .plan; cut = t .cut; first = floodOf (s .flood); second = t .second }
-
   -- what is kept is a start, the cut that stands, and then the old flood on wavelength 1
-  pub carried-again : let t = cutAgain (started (meshOf (s .mesh)) (planOf (s .plan)) .session) (s .cut) in
-      _≡_ {A = Session} (record { mesh = t .mesh; plan = t .plan; cut = t .cut; first = floodOf (s .flood); second = t .second }) (kept s)
-  carried-again = ap (λ (r : Change). withOld (cutAgain (r .session) (s .cut))) start-fresh ∙ again (s .cut) (formed-before .cut)
+  pub carried-again : withFirst (cutAgain (started (meshOf (s .mesh)) (planOf (s .plan)) .session) (s .cut)) (floodOf (s .flood)) ≡ kept s
+  carried-again = ap (λ (r : Change). withFirst (cutAgain (r .session) (s .cut)) first) start-fresh ∙ again (s .cut) (formed-before .cut)
     where
+      first : Flood
+      first = floodOf (s .flood)
+
       again : (c : OldCut) → ((k : ℕ) → c ≡ oldCuts.Link k → k < m .count)
-          → _≡_ {A = Session} (withOld (cutAgain (freshOn m p) c)) (record { mesh = m; plan = p; cut = cutOf c; first = floodOf (s .flood); second = secondOf m p (cutOf c) })
+          → withFirst (cutAgain (freshOn m p) c) first ≡ record { mesh = m; plan = p; cut = cutOf c; first = first; second = secondOf m p (cutOf c) }
       again oldCuts.Nothing h = refl
-      again (oldCuts.Link k) h = ap withOld (cut-fresh m p k start-accepted (h k refl))
+      again (oldCuts.Link k) h = ap (λ (t : Session). withFirst t first) (cut-fresh m p k start-accepted (h k refl))
 
 -- ---- the record test of now
 
