@@ -1,6 +1,6 @@
 -- 01's P7 on the mesh of P5 with lengths and fibre pairs, made by the calls from before wavelength 2, carried over, and let run. Definitions only; the theorem
 -- is `carried-bench` of Main.
-use Prim.Native.Nat.{ℕ, _-_}
+use Prim.Native.Nat.{ℕ}
 use mathlib.Core.Path.{_≡_}
 use mathlib.Core.List.{List, [], _∷_, _++_}
 use lib.ListN.{replicate}
