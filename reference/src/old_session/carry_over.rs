@@ -1,10 +1,10 @@
 //! An old session becomes one with both wavelengths.
 
 use super::{OldLink, OldSession};
-use crate::mesh::{Link, Mesh};
+use crate::mesh::{Link, Mesh, MOST_LINKS, MOST_NODES};
 use crate::plan::Plan;
 use crate::refusal::{Answer, Refusal};
-use crate::session::{start, Flood, Session};
+use crate::session::{start, Flood, Floods, Session, QUIET};
 
 impl OldSession {
     /// Wavelength 1 keeps its states and reached nodes; wavelength 2 is as in a
@@ -17,20 +17,39 @@ impl OldSession {
         }
     }
 
-    /// The same cut in a fresh session makes both floods; then wavelength 1's is
-    /// the old one. Past the old record's test neither start nor cut refuses.
     fn on_both_wavelengths(&self) -> Result<Session, Refusal> {
         self.check()?;
-        let (mut session, started) = start(&self.mesh(), &self.plan());
-        started?;
-        if let Some(link) = self.cut {
-            session.cut(link)?;
+        Ok(Session {
+            mesh: self.mesh(),
+            plan: self.plan(),
+            cut: self.cut,
+            floods: Floods {
+                first: self.flood(),
+                second: self.other_way().flood(),
+            },
+        })
+    }
+
+    /// Every arc turned round, all links quiet and no node reached; then the cut
+    /// that stands: what it offers there is what it offers on wavelength 2.
+    fn other_way(&self) -> OldSession {
+        let mut turned = self.clone();
+        turned.states = [QUIET; MOST_LINKS];
+        turned.reached = [false; MOST_NODES as usize];
+        for direction in &mut turned.directions[..self.count.into()] {
+            *direction = 1 - *direction;
         }
-        session.floods.first = Flood {
+        if let Some(link) = self.cut {
+            turned.begin(link.into());
+        }
+        turned
+    }
+
+    fn flood(&self) -> Flood {
+        Flood {
             states: self.states,
             reached: self.reached,
-        };
-        Ok(session)
+        }
     }
 
     fn mesh(&self) -> Mesh {
