@@ -8,9 +8,9 @@ use streams::print::hex;
 use streams::print::line;
 
 // The largest output that is lent, and the longest book of the corpus.
-pub const MOST_BYTES: usize = 2400;
+pub const MOST_BYTES: usize = 2900;
 
-// Checks m, encodes it into `room` bytes a5, at most 2,400, and shows them afterwards.
+// Checks m, encodes it into `room` bytes a5, at most 2,900, and shows them afterwards.
 pub fn show_written(m: Mesh, room: usize) {
     let mut space = [0xa5u8; MOST_BYTES];
     write_into(m, &mut space, room);

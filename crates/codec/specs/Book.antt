@@ -8,40 +8,23 @@ use Rattle.mesh.specs.declared.Link.{Link}
 use Rattle.mesh.specs.declared.Mesh.{Mesh}
 use Rattle.mesh.specs.declared.Answer.{Answer}
 use Rattle.mesh.specs.declared.Answer.the-variants.{Accepted, Refused}
-use Rattle.mesh.specs.Mesh.{must, andThen, zeroLink, zeroMesh, meshAnswer}
+use Rattle.mesh.specs.Mesh.{must, andThen, zeroLink, zeroMesh}
 use Rattle.codec.specs.declared.Decoded.{Decoded}
 use Rattle.codec.specs.declared.Encoded.{Encoded}
 use Rattle.codec.specs.declared.locate.Span.{Span}
-use Rattle.fields.specs.Record.{recordLength, linkOf, recordAnswer}
+use Rattle.fields.specs.declared.Fields.{Fields}
+use Rattle.fields.specs.Record.{asLink, zeroFields, recordLength, fieldsAt, recordAnswer}
+use Rattle.fields.specs.Entries.{meshWith}
 -- what a mesh is written as, and the header, are defined in the crates that write and read them
 pub use Rattle.writer.specs.Written.{version, longestBook}
-unfoldable pub use Rattle.writer.specs.Written.{recordsOf, bookOf}
+unfoldable pub use Rattle.writer.specs.Written.{recordsOf, bookOf, encodeAnswer, written, outputAfter}
 unfoldable pub use Rattle.reader.specs.Read.{headerAnswer}
 
 -- ---- writing
 
--- writing m to an output of `room` bytes: the mesh checks, then 11
-unfoldable pub encodeAnswer : Mesh → ℕ → Answer
-encodeAnswer m room =
-    andThen (meshAnswer m)
-    (must (leb (length (bookOf m)) room) 11 (length (bookOf m))
-    Accepted)
-
-abbrev pub encodedAs : Answer → ℕ → Encoded
-encodedAs Accepted n = record { length = n; answer = Accepted }
-encodedAs (Refused number place) n = record { length = 0; answer = Refused number place }
-
--- the answer, with the length of the book where it was written and 0 on a refusal
+-- what writing m to an output of `room` bytes gives: the answer, with the length of the book where it was written and 0 on a refusal
 unfoldable pub encoded : Mesh → ℕ → Encoded
-encoded m room = encodedAs (encodeAnswer m room) (length (bookOf m))
-
-abbrev pub outputAs : Answer → List ℕ → List ℕ → List ℕ
-outputAs Accepted book out = book ++ drop (length book) out
-outputAs (Refused number place) book out = out
-
--- the output after writing m: the book, then the bytes past it as they were; on a refusal all as it was
-unfoldable pub outputAfter : Mesh → List ℕ → List ℕ
-outputAfter m out = outputAs (encodeAnswer m (length out)) (bookOf m) out
+encoded m room = record { length = written m room .length; answer = written m room .answer }
 
 -- ---- reading
 
@@ -50,12 +33,12 @@ unfoldable pub recordsAnswer : ℕ → ℕ → Link → ℕ → ℕ → List ℕ
 recordsAnswer n end p at zero s = must (eqb (length s) 0) 10 at Accepted
 recordsAnswer n end p at (suc k) s =
     andThen (recordAnswer n end p at s)
-    (recordsAnswer n end (linkOf p s) (at + recordLength (getD s 0 0)) k (drop (recordLength (getD s 0 0)) s))
+    (recordsAnswer n end (asLink (fieldsAt p s)) (at + recordLength (getD s 0 0)) k (drop (recordLength (getD s 0 0)) s))
 
--- the links of these records
-unfoldable pub linksOf : Link → ℕ → List ℕ → List Link
-linksOf p zero s = []
-linksOf p (suc k) s = linkOf p s ∷ linksOf (linkOf p s) k (drop (recordLength (getD s 0 0)) s)
+-- the fields of these records
+unfoldable pub fieldsFrom : Link → ℕ → List ℕ → List Fields
+fieldsFrom p zero s = []
+fieldsFrom p (suc k) s = fieldsAt p s ∷ fieldsFrom (asLink (fieldsAt p s)) k (drop (recordLength (getD s 0 0)) s)
 
 -- reading the book s
 unfoldable pub bookAnswer : List ℕ → Answer
@@ -63,13 +46,9 @@ bookAnswer s =
     andThen (headerAnswer s)
     (recordsAnswer (getD s 1 0) (length s) zeroLink 4 (number 2 s 2) (drop 4 s))
 
--- the mesh that the book s says: its links, then entries that are all zero
+-- the mesh that the book s says: the links of its records, then entries that are all zero
 unfoldable pub meshOf : List ℕ → Mesh
-meshOf s = record {
-  nodes = getD s 1 0;
-  count = number 2 s 2;
-  links = linksOf zeroLink (number 2 s 2) (drop 4 s) ++ replicate (256 - number 2 s 2) zeroLink;
-}
+meshOf s = meshWith (getD s 1 0) (number 2 s 2) (fieldsFrom zeroLink (number 2 s 2) (drop 4 s) ++ replicate (256 - number 2 s 2) zeroFields)
 
 abbrev pub decodedAs : Answer → Mesh → Decoded
 decodedAs Accepted m = record { mesh = m; answer = Accepted }

@@ -30,10 +30,7 @@ pub fn decode(book: &[u8]) -> Decoded
 {
     let h = reader::read_header(book);
     let a = h.answer;
-    let Answer::Accepted = a else {
-        return records::refused(a);
-    };
-    records::read_records(book, h.nodes, h.count)
+    records::read_records(book, h.nodes, h.count, a)
 }
 
 // 01's writing: the book of m at the front of out. Bytes past the book stay as they were, and all of out on a refusal.
@@ -41,28 +38,11 @@ pub fn encode(m: Mesh, out: &mut [u8]) -> Encoded
     ensures answer { λ r. ⌜ r ≡ encoded m (length (now (out .entry))) ⌝ }
     ensures output { λ _. ⌜ now (out .exit) ≡ outputAfter m (now (out .entry)) ⌝ }
 {
-    let a = mesh::check(m);
-    let Answer::Accepted = a else {
-        return Encoded {
-            length: 0,
-            answer: a,
-        };
-    };
-    let length = writer::write_book(out, m);
-    if out.len() < length {
-        let short = Answer::Refused {
-            number: 11,
-            place: length,
-        };
-        return Encoded {
-            length: 0,
-            answer: short,
-        };
-    }
-    let done = Answer::Accepted;
+    let w = writer::write_book(m, out);
+    let answer = w.answer;
     Encoded {
-        length,
-        answer: done,
+        length: w.length,
+        answer,
     }
 }
 

@@ -1,3 +1,4 @@
 pub mod Fields
 pub mod Record
+pub mod Entries
 pub mod Needless

@@ -1,3 +1,4 @@
 pub mod Field
 pub mod Record
+pub mod Entries
 pub mod Laws

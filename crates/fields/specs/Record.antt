@@ -1,4 +1,4 @@
--- One link's record in the book (01, "The book"). Definitions only; no other definition names the fields of a link.
+-- One link's record in the book (01, "The book"; 02, request 4). Definitions only; no other definition names the fields of a link.
 use Prim.Native.Nat.{ℕ, _+_, _^_}
 use mathlib.Core.List.{List, [], _∷_}
 use mathlib.Core.Bool.{Bool, cond, not}
@@ -11,30 +11,39 @@ use Rattle.mesh.specs.Mesh.{must, zeroLink, linkAnswer}
 use Rattle.fields.specs.declared.Fields.{Fields}
 use Rattle.fields.specs.Field.{Field, field, widthsOf, sum, fieldsBytes, bitMap, stands, extent, needless}
 
--- 01's table: the fields of the link l after the link p, each with its bytes, its value and its value when absent
-abbrev pub fieldsOf : Link → Link → List Field
-fieldsOf p l =
-    field 1 (l .low) (p .low)
-    ∷ field 1 (l .high) (l .low + 1)
-    ∷ field 2 (l .length) 0
-    ∷ field 4 (l .pair) 0
+-- 01's and 02's table: the fields of a link after the link p, each with its bytes, its value and its value when absent
+abbrev pub fieldsOf : Link → Fields → List Field
+fieldsOf p f =
+    field 1 (f .low) (p .low)
+    ∷ field 1 (f .high) (f .low + 1)
+    ∷ field 2 (f .length) 0
+    ∷ field 4 (f .pair) 0
+    ∷ field 2 (f .duct) 0
     ∷ []
 
--- a link by its fields; the high end need not fit a byte
+-- the link with these fields; the high end need not fit a byte
 abbrev pub asLink : Fields → Link
 asLink f = record { low = f .low; high = f .high; length = f .length; pair = f .pair }
 
+-- the fields of a link with this duct number
+abbrev pub asFields : Link → ℕ → Fields
+asFields l d = record { low = l .low; high = l .high; length = l .length; pair = l .pair; duct = d }
+
+-- those of an entry past the last link
+abbrev pub zeroFields : Fields
+zeroFields = asFields zeroLink 0
+
 -- the bytes of each field, in bit order
 abbrev pub widths : List ℕ
-widths = widthsOf (fieldsOf zeroLink zeroLink)
+widths = widthsOf (fieldsOf zeroLink zeroFields)
 
 -- the bytes of a record with every field
 abbrev pub longestRecord : ℕ
 longestRecord = 1 + sum widths
 
--- the record of l after p: a bit map byte, then only the fields whose bit stands
-unfoldable pub recordOf : Link → Link → List ℕ
-recordOf p l = bitMap (fieldsOf p l) ∷ fieldsBytes (fieldsOf p l)
+-- the record of a link with these fields after p: a bit map byte, then only the fields whose bit stands
+unfoldable pub recordOf : Link → Fields → List ℕ
+recordOf p f = bitMap (fieldsOf p f) ∷ fieldsBytes (fieldsOf p f)
 
 -- a bit past that of the last field stands in the bit map
 abbrev pub reserved : ℕ → Bool
@@ -50,11 +59,11 @@ fieldAt s i absent =
     let b = getD s 0 0 in
     cond (stands b i) (number (getD widths i 0) s (1 + extent (take i widths) b)) absent
 
--- the link of the record at the front of s, after the link p
-unfoldable pub linkOf : Link → List ℕ → Link
-linkOf p s =
+-- the fields of the record at the front of s, after the link p
+unfoldable pub fieldsAt : Link → List ℕ → Fields
+fieldsAt p s =
     let low = fieldAt s 0 (p .low) in
-    record { low = low; high = fieldAt s 1 (low + 1); length = fieldAt s 2 0; pair = fieldAt s 3 0 }
+    record { low = low; high = fieldAt s 1 (low + 1); length = fieldAt s 2 0; pair = fieldAt s 3 0; duct = fieldAt s 4 0 }
 
 -- reading the record at the front of s, which stands at `at` in a book of `end` bytes, after the link p: 1, 5, 1, 9, 7, 6, 8
 unfoldable pub recordAnswer : ℕ → ℕ → Link → ℕ → List ℕ → Answer
@@ -62,5 +71,5 @@ recordAnswer n end p at s =
     must (ltb 0 (length s)) 1 end
     (must (not (reserved (getD s 0 0))) 5 at
     (must (leb (recordLength (getD s 0 0)) (length s)) 1 end
-    (must (not (needless (getD s 0 0) (fieldsOf p (linkOf p s)))) 9 at
-    (linkAnswer n p (linkOf p s) at))))
+    (must (not (needless (getD s 0 0) (fieldsOf p (fieldsAt p s)))) 9 at
+    (linkAnswer n p (asLink (fieldsAt p s)) at))))

@@ -4,7 +4,7 @@ ghost use mathlib.Core.Path.{_≡_};
 ghost use mathlib.Core.Bool.{cond};
 ghost use Prim.Native.Nat.{_≤_};
 ghost use Rattle.fields.specs.Field.{field, sum, differs, bitMap, odd, extent};
-ghost use Rattle.fields.specs.Record.{asLink, fieldsOf, widths, longestRecord, recordLength};
+ghost use Rattle.fields.specs.Record.{fieldsOf, widths, longestRecord, recordLength};
 ghost use Rattle.scan.specs.Total.{bit};
 
 // How many bytes each field takes.
@@ -16,11 +16,13 @@ pub const LENGTH: usize = 2;
 
 pub const PAIR: usize = 4;
 
+pub const DUCT: usize = 2;
+
 // How many bytes the bit map and all fields take.
-pub const LONGEST_RECORD: usize = 1 + LOW + HIGH + LENGTH + PAIR;
+pub const LONGEST_RECORD: usize = 1 + LOW + HIGH + LENGTH + PAIR + DUCT;
 
 // The lowest number with a bit past that of the last field.
-const RESERVED: u8 = 16;
+const RESERVED: u8 = 32;
 
 // The fields of a link. An absent high end can be 256, so it is wider than a link's.
 pub struct Fields {
@@ -28,6 +30,7 @@ pub struct Fields {
     pub high: u16,
     pub length: u16,
     pub pair: u32,
+    pub duct: u16,
 }
 
 // Whether a reserved bit stands in the bit map b.
@@ -50,7 +53,11 @@ fn fields_length(b: u8) -> usize
     ensures value { λ r. ⌜ r ≡ extent widths b ⌝ }
     ensures within { λ r. ⌜ r ≤ sum widths ⌝ }
 {
-    taken(b, LOW) + taken(b / 2, HIGH) + taken(b / 2 / 2, LENGTH) + taken(b / 2 / 2 / 2, PAIR)
+    taken(b, LOW)
+        + taken(b / 2, HIGH)
+        + taken(b / 2 / 2, LENGTH)
+        + taken(b / 2 / 2 / 2, PAIR)
+        + taken(b / 2 / 2 / 2 / 2, DUCT)
 }
 
 // The length of a record with the bit map b; 0 where a reserved bit stands.
@@ -74,11 +81,12 @@ fn flag(value: u32, absent: u32) -> u8
 
 // The bit map of these fields after the link prev.
 pub fn bit_map(prev: Link, f: Fields) -> u8
-    ensures { λ r. ⌜ r ≡ bitMap (fieldsOf prev (asLink f)) ⌝ }
+    ensures { λ r. ⌜ r ≡ bitMap (fieldsOf prev f) ⌝ }
 {
     let low = flag(f.low as u32, prev.low as u32);
     let high = flag(f.high as u32, f.low as u32 + 1);
     let length = flag(f.length as u32, 0);
     let pair = flag(f.pair, 0);
-    low + 2 * (high + 2 * (length + 2 * pair))
+    let duct = flag(f.duct as u32, 0);
+    low + 2 * (high + 2 * (length + 2 * (pair + 2 * duct)))
 }

@@ -1,5 +1,5 @@
 -- What owning a mesh tells of its fields: they are in the ranges of their types, and there are 256 entries. Assumes nothing.
-use Prim.Native.Nat.{ℕ, zero, suc}
+use Prim.Native.Nat.{ℕ, zero, suc, _<_}
 use mathlib.Core.Path.{_≡_}
 use mathlib.Core.List.{List, [], _∷_, map}
 use lib.ListN.{length, getD}
@@ -7,6 +7,9 @@ use mir.Val.{Val}
 use denote.Laws.{Is}
 use denote.Shadow.{shadow}
 use denote.Array.{each}
+use denote.Struct.Field.{u16-field}
+use lib.Dec.{lit<}
+use Rattle.scan.specs.Entry.{at}
 use Rattle.scan.specs.Part.{length-mapped}
 use Rattle.mesh.specs.declared.Link.{Link}
 use Rattle.mesh.specs.declared.Mesh.{Mesh}
@@ -26,9 +29,23 @@ each-in-range (l ∷ ls) (u ∷ us) q zero =
     record { low = f .0 .1; high = f .1 .0 .1; length = f .1 .1 .0 .1; pair = f .1 .1 .1 .0 .1 }
 each-in-range (l ∷ ls) (u ∷ us) q (suc i) = each-in-range ls us (q .1) i
 
+numbers-in-range : (ds : List ℕ) (us : List Val) → shadow (each (u16-field .row .Denot) (u16-field .row .own) (map (λ (v : ℕ). v) ds) us) → (i : ℕ) → at ds i < 65536
+numbers-in-range [] us q i = lit< tt
+numbers-in-range (d ∷ ds) [] q i = absurd q
+numbers-in-range (d ∷ ds) (u ∷ us) q zero = q .0 .1
+numbers-in-range (d ∷ ds) (u ∷ us) q (suc i) = numbers-in-range ds us (q .1) i
+
 module _ (m : Mesh) (vs : List Val) (owned : Is meshType.the-row m vs) where
   pub entries-are : length (m .links) ≡ 256
   entries-are = length-mapped _ (m .links) 256 (owned .1 .1 .0 .1 .0 .1)
 
+  pub numbers-are : length (m .ducts) ≡ 256
+  numbers-are = length-mapped _ (m .ducts) 256 (owned .1 .1 .1 .1 .1 .0 .1 .0 .1)
+
   pub in-range : InRange m
-  in-range = record { entries = entries-are; links = each-in-range (m .links) _ (owned .1 .1 .0 .1 .1) }
+  in-range = record {
+    entries = entries-are;
+    links = each-in-range (m .links) _ (owned .1 .1 .0 .1 .1);
+    numbers = numbers-are;
+    ducts = numbers-in-range (m .ducts) _ (owned .1 .1 .1 .1 .1 .0 .1 .1);
+  }

@@ -1,9 +1,10 @@
 -- The mesh and its checks (01, "The mesh" and "Order"). Definitions only.
 use Prim.Native.Nat.{ℕ, _+_}
-use mathlib.Core.List.{List, [], _∷_}
-use mathlib.Core.Bool.{Bool, true, cond, _&&_, _||_}
-use lib.ListN.{take, drop, replicate}
+use mathlib.Core.List.{List, [], _∷_, _++_}
+use mathlib.Core.Bool.{Bool, true, false, cond, _&&_, _||_}
+use lib.ListN.{length, take, drop, replicate}
 use lib.Dec.{ltb, leb, eqb}
+use Rattle.scan.specs.All.{all}
 use Rattle.mesh.specs.declared.Link.{Link}
 use Rattle.mesh.specs.declared.Mesh.{Mesh}
 use Rattle.mesh.specs.declared.Answer.{Answer}
@@ -20,6 +21,16 @@ abbrev pub andThen : Answer → Answer → Answer
 andThen Accepted next = next
 andThen (Refused number place) next = Refused number place
 
+-- the answer is a refusal
+abbrev pub refuses : Answer → Bool
+refuses Accepted = false
+refuses (Refused number place) = true
+
+-- what an output holds after a call that writes these entries to its front: those past them stay as they were, and all on a refusal
+abbrev pub outputAs : Answer → List ℕ → List ℕ → List ℕ
+outputAs Accepted written out = written ++ drop (length written) out
+outputAs (Refused number place) written out = out
+
 -- ---- records
 
 -- an entry past the last link; it also stands before the first link
@@ -28,7 +39,7 @@ zeroLink = record { low = 0; high = 0; length = 0; pair = 0 }
 
 -- 01's all-zero mesh
 abbrev pub zeroMesh : Mesh
-zeroMesh = record { nodes = 0; count = 0; links = replicate 256 zeroLink }
+zeroMesh = record { nodes = 0; count = 0; links = replicate 256 zeroLink; ducts = replicate 256 0 }
 
 -- ---- checks
 
@@ -65,9 +76,16 @@ linksAnswer n p i (l ∷ ls) = andThen (linkAnswer n p l i) (linksAnswer n l (i 
 abbrev pub isZero : Link → Bool
 isZero l = eqb (l .low) 0 && eqb (l .high) 0 && eqb (l .length) 0 && eqb (l .pair) 0
 
-unfoldable pub allZero : List Link → Bool
-allZero [] = true
-allZero (l ∷ ls) = isZero l && allZero ls
+abbrev pub allZero : List Link → Bool
+allZero = all isZero
+
+-- the same of duct numbers (02, request 4)
+abbrev pub ductless : List ℕ → Bool
+ductless = all (λ d. eqb d 0)
+
+-- each entry past the last link of m is zero
+abbrev pub restZero : Mesh → Bool
+restZero m = allZero (drop (m .count) (m .links)) && ductless (drop (m .count) (m .ducts))
 
 -- the mesh checks: 3, 4; each link 7, 6, 8; then 13
 unfoldable pub meshAnswer : Mesh → Answer
@@ -75,5 +93,5 @@ meshAnswer m =
     must (nodesFit (m .nodes)) 3 0
     (must (countFits (m .count)) 4 0
     (andThen (linksAnswer (m .nodes) zeroLink 0 (take (m .count) (m .links)))
-    (must (allZero (drop (m .count) (m .links))) 13 0
+    (must (restZero m) 13 0
     Accepted)))

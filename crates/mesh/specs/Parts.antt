@@ -3,7 +3,6 @@
 use Prim.Native.Nat.{ℕ, zero, suc, _+_, _*_, min}
 use mathlib.Core.Bool.{Bool}
 use mathlib.Core.List.{List, _∷_}
-use lib.ListN.{drop}
 use Rattle.scan.specs.Entry.{at}
 use Rattle.scan.specs.Fill.{filled, tableOf}
 use Rattle.ends.specs.Ends.{lowOf, highOf}
@@ -11,7 +10,8 @@ use Rattle.mesh.specs.declared.Link.{Link}
 use Rattle.mesh.specs.declared.Mesh.{Mesh}
 use Rattle.mesh.specs.declared.Answer.{Answer}
 use Rattle.mesh.specs.declared.Answer.the-variants.{Accepted}
-use Rattle.mesh.specs.Mesh.{must, andThen, nodesFit, countFits, endsAnswer, allZero}
+use Rattle.mesh.specs.Mesh.{must, andThen, nodesFit, countFits, endsAnswer}
+pub use Rattle.mesh.specs.Mesh.{restZero}
 use Rattle.mesh.specs.WellFormed.{link}
 
 -- the ends of a link as one number, which rises as the pairs (low, high) do
@@ -25,10 +25,6 @@ endsInto m l = filled (λ i. endsOf (link m i)) (min (m .count) 256) l
 -- the ends of m's links in an array of 256 entries, 0 past the last link
 abbrev pub endsIn : Mesh → List ℕ
 endsIn m = tableOf (λ i. endsOf (link m i)) (m .count)
-
--- each entry past the last link of m is zero
-abbrev pub restZero : Mesh → Bool
-restZero m = allZero (drop (m .count) (m .links))
 
 -- entry i of these ends after the entry before it; 0 stands before the first: 7, 6, 8
 abbrev pub entryAnswer : ℕ → List ℕ → ℕ → Answer

@@ -6,7 +6,7 @@ use lib.ListN.{getD}
 use Rattle.mesh.specs.declared.Link.{Link}
 use Rattle.mesh.specs.declared.Mesh.{Mesh}
 use Rattle.mesh.specs.Mesh.{zeroLink}
-use Rattle.mesh.specs.WellFormed.{link, After, Joins, Rises}
+use Rattle.mesh.specs.WellFormed.{link, duct, After, Joins, Rises}
 
 -- a link with the ends low and high after one with the ends plow and phigh, in a mesh of n nodes: its fault by number
 pub data EndsFault (n plow phigh low high : ℕ) : ℕ → Type 0 where
@@ -40,3 +40,5 @@ pub data Refusal (m : Mesh) : ℕ → ℕ → Type 0 where
       → ((i : ℕ) → i < place → Faultless (m .nodes) (previous m i) (link m i)) → Refusal m number place
   -- 13 an entry past L not zero, at 0
   entry-not-zero : (i : ℕ) → m .count ≤ i → link m i ≢ zeroLink → Refusal m 13 0
+  -- or its duct number
+  duct-not-zero : (i : ℕ) → m .count ≤ i → duct m i ≢ 0 → Refusal m 13 0

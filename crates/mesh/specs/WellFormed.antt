@@ -3,6 +3,7 @@ use Prim.Native.Nat.{ℕ, _+_, _<_, _≤_, _^_}
 use mathlib.Core.Path.{_≡_}
 use mathlib.Core.Logic.{_⊎_}
 use lib.ListN.{length, getD}
+use Rattle.scan.specs.Entry.{at}
 use Rattle.mesh.specs.declared.Link.{Link}
 use Rattle.mesh.specs.declared.Mesh.{Mesh}
 use Rattle.mesh.specs.Mesh.{zeroLink}
@@ -14,6 +15,10 @@ link m i = getD (m .links) i zeroLink
 -- the length of link i in metres, 0 where it is not measured
 abbrev pub lengths : Mesh → ℕ → ℕ
 lengths m i = link m i .length
+
+-- the duct number of link i, 0 for none (02, request 4)
+abbrev pub duct : Mesh → ℕ → ℕ
+duct m i = at (m .ducts) i
 
 -- the ends are two nodes, the low one first
 pub record Joins (n : ℕ) (l : Link) : Type 0 where
@@ -36,6 +41,7 @@ pub record WellFormed (m : Mesh) : Type 0 where
   pub joins : (i : ℕ) → i < m .count → Joins (m .nodes) (link m i)
   pub rises : (i : ℕ) → i + 1 < m .count → Rises (link m i) (link m (i + 1))
   pub zeros : (i : ℕ) → m .count ≤ i → link m i ≡ zeroLink
+  pub ductless : (i : ℕ) → m .count ≤ i → duct m i ≡ 0
 
 -- the ranges of a link's fields: ends of one byte, a length of 0 to 65,535, a pair number of 32 bits
 pub record LinkInRange (l : Link) : Type 0 where
@@ -48,3 +54,5 @@ pub record LinkInRange (l : Link) : Type 0 where
 pub record InRange (m : Mesh) : Type 0 where
   pub entries : length (m .links) ≡ 256
   pub links : (i : ℕ) → LinkInRange (link m i)
+  pub numbers : length (m .ducts) ≡ 256
+  pub ducts : (i : ℕ) → duct m i < 65536

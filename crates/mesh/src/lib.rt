@@ -8,6 +8,8 @@ mod in_turn;
 mod links;
 
 pub use links::Parts;
+pub use links::bits_of;
+pub use links::ends_of;
 pub use links::split;
 pub use links::split_along;
 
@@ -23,6 +25,7 @@ pub struct Mesh {
     pub links: [Link; 256],
     pub nodes: u8,
     pub count: u16,
+    pub ducts: [u16; 256],
 }
 
 // A direction for each link: 0 from its low to its high end, 1 from its high to its low end. Entries past the last link are zero.
@@ -55,6 +58,7 @@ pub fn zero_mesh() -> Mesh
         links: [l; 256],
         nodes: 0,
         count: 0,
+        ducts: [0; 256],
     }
 }
 

@@ -10,19 +10,19 @@ ghost use Prim.Native.Nat.{_%_, _<_, min};
 ghost use lib.Dec.{eqb};
 ghost use Rattle.scan.specs.Entry.{at};
 ghost use Rattle.metres.specs.Length.{lengthOf};
-ghost use Rattle.mesh.specs.Mesh.{isZero};
+ghost use Rattle.mesh.specs.Mesh.{isZero, restZero};
 ghost use Rattle.mesh.specs.WellFormed.{InRange, lengths};
-ghost use Rattle.mesh.specs.Parts.{endsOf, endsInto, restZero};
+ghost use Rattle.mesh.specs.Parts.{endsOf, endsInto};
 
 // The ends of a link as one number, which rises as the pairs do.
-fn ends_of(l: Link) -> u16
+pub fn ends_of(l: Link) -> u16
     ensures { λ r. ⌜ r ≡ endsOf l ⌝ }
 {
     256 * (l.low as u16) + l.high as u16
 }
 
 // The bits of all fields, joined. The factors put them where they stand in memory, so that the compiler reads them at once.
-fn bits_of(l: Link) -> u64
+pub fn bits_of(l: Link) -> u64
     ensures { λ r. ⌜ eqb r 0 ≡ isZero l ⌝ }
 {
     l.low as u64 | 256 * (l.high as u64) | 65536 * (l.length as u64) | 4294967296 * (l.pair as u64)
@@ -46,7 +46,7 @@ fn entry_of(link: u8) -> usize
     link as usize
 }
 
-// What is read off a mesh's links: whether each entry past the last link is zero, and the length of the links that were listed.
+// What is read off a mesh's links: whether each entry past the last link, and its duct number, is zero, and the length of the links that were listed.
 pub struct Parts {
     pub zeros: bool,
     pub length: Length,
@@ -54,8 +54,8 @@ pub struct Parts {
 
 // Takes a mesh apart: stores the ends of each link as one number, and says whether each entry past the last link is zero, and how long the links
 // are together whose numbers are the first n of `row`. The entries of `ends` past the last link stay. All loops stand here, since a mesh is
-// copied for each function that takes it; the second has no branch, so that the compiler tests several entries at once, and starts at an even
-// one, so that two entries that are read at once, 16 bytes, do not lie across two blocks of 16 of the copy.
+// copied for each function that takes it; the second and third have no branch, so that the compiler tests several entries at once, and the second
+// starts at an even one, so that two entries that are read at once, 16 bytes, do not lie across two blocks of 16 of the copy.
 pub fn split_along(m: Mesh, ends: &mut [u16; 256], row: &[u8; 256], n: usize) -> Parts
     ensures rest { λ r. ⌜ r .zeros ≡ restZero m ⌝ }
     ensures ends { λ _. ⌜ now (ends .exit) ≡ endsInto m (now (ends .entry)) ⌝ }
@@ -77,6 +77,12 @@ pub fn split_along(m: Mesh, ends: &mut [u16; 256], row: &[u8; 256], n: usize) ->
         bits = bits | bits_of(l);
         i += 1;
     }
+    let mut ducts: u16 = 0;
+    let mut j = links;
+    while j < 256 {
+        ducts = ducts | m.ducts[j];
+        j += 1;
+    }
     let listed = lower(n, 256);
     let mut metres: u32 = 0;
     let mut unmeasured = false;
@@ -89,7 +95,7 @@ pub fn split_along(m: Mesh, ends: &mut [u16; 256], row: &[u8; 256], n: usize) ->
     }
     let length = length_of(metres, unmeasured);
     Parts {
-        zeros: bits == 0,
+        zeros: (bits == 0) & (ducts == 0),
         length,
     }
 }

@@ -9,7 +9,8 @@ use Rattle.mesh.specs.declared.Link.{Link}
 use Rattle.mesh.specs.declared.Answer.{Answer}
 use Rattle.mesh.specs.declared.Answer.the-variants.{Accepted, Refused}
 use Rattle.mesh.specs.Mesh.{must, zeroLink, nodesFit, countFits}
-use Rattle.fields.specs.Record.{linkOf, recordLength, recordAnswer}
+use Rattle.fields.specs.declared.Fields.{Fields}
+use Rattle.fields.specs.Record.{asLink, fieldsAt, recordLength, recordAnswer}
 use Rattle.reader.specs.declared.Header.{Header}
 use Rattle.reader.specs.declared.Record.{Record}
 
@@ -38,10 +39,10 @@ headerRead s = headerAs (headerAnswer s) (getD s 1 0) (number 2 s 2)
 
 -- ---- one record
 
-abbrev pub recordAs : Answer → Link → ℕ → Record
-recordAs Accepted l n = record { link = l; length = n; answer = Accepted }
-recordAs (Refused number place) l n = record { link = zeroLink; length = 0; answer = Refused number place }
+abbrev pub recordAs : Answer → Fields → ℕ → Record
+recordAs Accepted f n = record { link = asLink f; duct = f .duct; length = n; answer = Accepted }
+recordAs (Refused number place) f n = record { link = zeroLink; duct = 0; length = 0; answer = Refused number place }
 
--- the answer, with the link and the record's length, the zero link and 0 on a refusal
+-- the answer, with the link, its duct number and the record's length, the zero link, 0 and 0 on a refusal
 unfoldable pub recordRead : ℕ → ℕ → Link → ℕ → List ℕ → Record
-recordRead n end p at s = recordAs (recordAnswer n end p at s) (linkOf p s) (recordLength (getD s 0 0))
+recordRead n end p at s = recordAs (recordAnswer n end p at s) (fieldsAt p s) (recordLength (getD s 0 0))

@@ -1,5 +1,6 @@
 // Reading the fields of a record in turn.
 use crate::number::number_at;
+use fields::DUCT;
 use fields::Fields;
 use fields::HIGH;
 use fields::LENGTH;
@@ -13,7 +14,7 @@ ghost use Prim.Native.Nat.{_+_, _/_, _≤_, _<_, _^_};
 ghost use lib.ListN.{length, getD};
 ghost use Rattle.scan.specs.Bytes.{number};
 ghost use Rattle.fields.specs.Field.{odd};
-ghost use Rattle.fields.specs.Record.{asLink, linkOf, reserved, recordLength};
+ghost use Rattle.fields.specs.Record.{fieldsAt, reserved, recordLength};
 
 // A place among the fields of a record: the bit map from the next field's bit on, where that field's bytes would start, and
 // the value of the field before.
@@ -51,7 +52,7 @@ pub(crate) fn fields_at(s: &[u8], prev: Link) -> Fields
     requires { ⌜ 0 < length (now s) ⌝ }
     requires { ⌜ reserved (getD (now s) 0 0) ≡ false ⌝ }
     requires { ⌜ recordLength (getD (now s) 0 0) ≤ length (now s) ⌝ }
-    ensures { λ r. ⌜ asLink r ≡ linkOf prev (now (s .entry)) ⌝ }
+    ensures { λ r. ⌜ r ≡ fieldsAt prev (now (s .entry)) ⌝ }
 {
     let bits = s[0];
     let start = Place {
@@ -66,10 +67,13 @@ pub(crate) fn fields_at(s: &[u8], prev: Link) -> Fields
     let length = next_field(s, high, LENGTH, 0);
     let metres = length.value as u16;
     let pair = next_field(s, length, PAIR, 0);
+    let duct = next_field(s, pair, DUCT, 0);
+    let duct_number = duct.value as u16;
     Fields {
         low: low_end,
         high: high_end,
         length: metres,
         pair: pair.value,
+        duct: duct_number,
     }
 }

@@ -17,8 +17,7 @@ use number::number_at;
 ghost use mathlib.Core.Path.{_≡_};
 ghost use Prim.Native.Nat.{_<_};
 ghost use Rattle.mesh.specs.declared.Answer.the-variants.{Accepted, Refused};
-ghost use Rattle.mesh.specs.Mesh.{zeroLink};
-ghost use Rattle.fields.specs.Record.{asLink};
+ghost use Rattle.fields.specs.Record.{zeroFields};
 ghost use Rattle.reader.specs.Read.{knownVersion, headerAs, headerRead, recordAs, recordRead};
 
 // The version byte that is read.
@@ -31,9 +30,10 @@ pub struct Header {
     pub answer: Answer,
 }
 
-// A record: its link and how many bytes it takes, the zero link and 0 on a refusal.
+// A record: its link with the link's duct number, and how many bytes it takes; the zero link, 0 and 0 on a refusal.
 pub struct Record {
     pub link: Link,
+    pub duct: u16,
     pub length: usize,
     pub answer: Answer,
 }
@@ -84,12 +84,13 @@ pub fn read_header(book: &[u8]) -> Header
 }
 
 fn refused(number: u8, place: usize) -> Record
-    ensures { λ r. ⌜ r ≡ recordAs (Refused number place) zeroLink 0 ⌝ }
+    ensures { λ r. ⌜ r ≡ recordAs (Refused number place) zeroFields 0 ⌝ }
 {
     let answer = Answer::Refused { number, place };
     let link = zero_link();
     Record {
         link,
+        duct: 0,
         length: 0,
         answer,
     }
@@ -98,7 +99,7 @@ fn refused(number: u8, place: usize) -> Record
 // The record with these fields, whose ends are bytes.
 fn accepted(f: Fields, length: usize) -> Record
     requires { ⌜ f .high < 256 ⌝ }
-    ensures { λ r. ⌜ r ≡ recordAs Accepted (asLink f) length ⌝ }
+    ensures { λ r. ⌜ r ≡ recordAs Accepted f length ⌝ }
 {
     let link = Link {
         low: f.low,
@@ -106,9 +107,11 @@ fn accepted(f: Fields, length: usize) -> Record
         length: f.length,
         pair: f.pair,
     };
+    let duct = f.duct;
     let answer = Answer::Accepted;
     Record {
         link,
+        duct,
         length,
         answer,
     }

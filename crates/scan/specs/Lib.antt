@@ -1,4 +1,5 @@
 pub mod Test
+pub mod All
 pub mod Entry
 pub mod Lowest
 pub mod Rising

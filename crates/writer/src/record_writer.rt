@@ -1,5 +1,6 @@
 // Writing one record.
 use crate::number::put_bytes;
+use fields::DUCT;
 use fields::Fields;
 use fields::HIGH;
 use fields::LENGTH;
@@ -13,25 +14,27 @@ ghost use Prim.Native.Nat.{_+_, _≤_};
 ghost use lib.ListN.{length};
 ghost use lib.Seq.{sets};
 ghost use Rattle.fields.specs.Field.{field, fieldBytes};
-ghost use Rattle.fields.specs.Record.{asLink, longestRecord, recordOf};
+ghost use Rattle.fields.specs.Record.{asFields, longestRecord, recordOf};
 
-pub(crate) fn widened(l: Link) -> Fields
-    ensures { λ r. ⌜ asLink r ≡ l ⌝ }
+// The fields of a link with this duct number.
+pub(crate) fn widened(l: Link, duct: u16) -> Fields
+    ensures { λ r. ⌜ r ≡ asFields l duct ⌝ }
 {
     Fields {
         low: l.low,
         high: l.high as u16,
         length: l.length,
         pair: l.pair,
+        duct,
     }
 }
 
-// The length of the record of l after prev.
-pub(crate) fn length_of(prev: Link, l: Link) -> usize
-    ensures value { λ r. ⌜ r ≡ length (recordOf prev l) ⌝ }
+// The length of the record of these fields after prev.
+pub(crate) fn length_of(prev: Link, f: Fields) -> usize
+    ensures value { λ r. ⌜ r ≡ length (recordOf prev f) ⌝ }
     ensures within { λ r. ⌜ r ≤ longestRecord ⌝ }
 {
-    record_length(bit_map(prev, widened(l)))
+    record_length(bit_map(prev, f))
 }
 
 // Stores a field of w bytes at `at` unless it has its absent value, and answers where the next one goes.
@@ -46,16 +49,17 @@ fn put_field(out: &mut [u8], at: usize, w: usize, value: u32, absent: u32) -> us
     put_bytes(out, at, w, value)
 }
 
-// Stores the record of l after prev at the front of out, its fields and then its bit map, and answers its length.
-pub(crate) fn put_record(out: &mut [u8], prev: Link, l: Link) -> usize
-    requires { ⌜ length (recordOf prev l) ≤ length (now out) ⌝ }
-    ensures next { λ r. ⌜ r ≡ length (recordOf prev l) ⌝ }
-    ensures stored { λ _. ⌜ now (out .exit) ≡ sets (now (out .entry)) 0 (recordOf prev l) ⌝ }
+// Stores the record of these fields after prev at the front of out, its fields and then its bit map, and answers its length.
+pub(crate) fn put_record(out: &mut [u8], prev: Link, f: Fields) -> usize
+    requires { ⌜ length (recordOf prev f) ≤ length (now out) ⌝ }
+    ensures next { λ r. ⌜ r ≡ length (recordOf prev f) ⌝ }
+    ensures stored { λ _. ⌜ now (out .exit) ≡ sets (now (out .entry)) 0 (recordOf prev f) ⌝ }
 {
-    let a = put_field(out, 1, LOW, l.low as u32, prev.low as u32);
-    let b = put_field(out, a, HIGH, l.high as u32, l.low as u32 + 1);
-    let c = put_field(out, b, LENGTH, l.length as u32, 0);
-    let end = put_field(out, c, PAIR, l.pair, 0);
-    out[0] = bit_map(prev, widened(l));
+    let a = put_field(out, 1, LOW, f.low as u32, prev.low as u32);
+    let b = put_field(out, a, HIGH, f.high as u32, f.low as u32 + 1);
+    let c = put_field(out, b, LENGTH, f.length as u32, 0);
+    let d = put_field(out, c, PAIR, f.pair, 0);
+    let end = put_field(out, d, DUCT, f.duct as u32, 0);
+    out[0] = bit_map(prev, f);
     end
 }

@@ -53,6 +53,18 @@ mul-result-3 c = search needs
 add-result-3 : tie.Need-add-result-3
 add-result-3 c = search needs
 
+cast-flag-6 : tie.Need-cast-flag-6
+cast-flag-6 c = search needs
+
+flag-requires-5 : tie.Need-flag-requires-5
+flag-requires-5 c κs = search needs
+
+mul-result-4 : tie.Need-mul-result-4
+mul-result-4 c = search needs
+
+add-result-4 : tie.Need-add-result-4
+add-result-4 c = search needs
+
 returns : tie.Need-returns
 unfolding bitMap
 returns c = omega arith
@@ -71,10 +83,14 @@ bit-map-spec =
     cast-flag-5
     flag-requires-3
     flag-requires-4
+    cast-flag-6
+    flag-requires-5
     mul-result
     add-result
     mul-result-2
     add-result-2
     mul-result-3
     add-result-3
+    mul-result-4
+    add-result-4
     returns)

@@ -25,6 +25,12 @@ taken-requires-4 c κs = search needs
 add-result-3 : tie.Need-add-result-3
 add-result-3 c = search needs
 
+taken-requires-5 : tie.Need-taken-requires-5
+taken-requires-5 c κs = search needs
+
+add-result-4 : tie.Need-add-result-4
+add-result-4 c = search needs
+
 returns : tie.Need-returns
 returns c = (omega arith, omega arith)
 
@@ -39,4 +45,6 @@ fields-length-spec =
     add-result-2
     taken-requires-4
     add-result-3
+    taken-requires-5
+    add-result-4
     returns)

@@ -13,7 +13,7 @@ use Rattle.scan.specs.Test.{clash, eq-says, says-same}
 use Rattle.scan.specs.Total.{bit}
 use Rattle.mesh.specs.declared.Link.{Link}
 use Rattle.fields.specs.Field.{Field, differs, bitMap, odd, needless}
-use Rattle.fields.specs.Record.{fieldsOf, reserved, linkOf}
+use Rattle.fields.specs.Record.{fieldsOf, reserved, fieldsAt}
 use Rattle.fields.specs.Laws.Fields.{AsRead}
 use Rattle.fields.specs.Laws.Record.{as-read}
 
@@ -57,8 +57,8 @@ absent-read (f ∷ fs) s at b r = (
 
 -- so refusal 9 is a test of bit maps
 pub record-needed : (p : Link) (s : List ℕ) → reserved (getD s 0 0) ≡ false
-    → not (needless (getD s 0 0) (fieldsOf p (linkOf p s))) ≡ eqb (bitMap (fieldsOf p (linkOf p s))) (getD s 0 0)
+    → not (needless (getD s 0 0) (fieldsOf p (fieldsAt p s))) ≡ eqb (bitMap (fieldsOf p (fieldsAt p s))) (getD s 0 0)
 record-needed p s e =
     let b = getD s 0 0 in
-    let fs = fieldsOf p (linkOf p s) in
+    let fs = fieldsOf p (fieldsAt p s) in
     ap not (needless-bitMap b fs (leb-false _ b e) (absent-read fs s 1 b (as-read p s))) ∙ Bool·not-not _

@@ -12,7 +12,7 @@ use Rattle.mesh.specs.declared.Answer.the-variants.{Accepted}
 use Rattle.mesh.specs.Mesh.{zeroLink, meshAnswer}
 use Rattle.mesh.specs.WellFormed.{link, Rises, WellFormed}
 use Rattle.mesh.specs.Refusal.{LinkFault, low-not-below-high, end-not-below-nodes, pair-not-after, Faultless, previous}
-use Rattle.mesh.specs.Refusal.{Refusal, nodes-unfit, count-unfit, first-fault, entry-not-zero}
+use Rattle.mesh.specs.Refusal.{Refusal, nodes-unfit, count-unfit, first-fault, entry-not-zero, duct-not-zero}
 use Rattle.mesh.specs.Laws.Answer.{Tells, told-accepted, tells-accepted}
 use Rattle.mesh.specs.Laws.Refused.{Sound, mesh-told}
 
@@ -66,6 +66,7 @@ module _ (m : Mesh) (w : WellFormed m) where
   never-refused number place (count-unfit h) = omega (arith, w .count-most)
   never-refused number place (first-fault h f g) = no-fault (m .nodes) (previous m place) (link m place) number (w .joins place h, rises-previous place h) f
   never-refused number place (entry-not-zero i h f) = f (w .zeros i h)
+  never-refused number place (duct-not-zero i h f) = f (w .ductless i h)
 
 -- the checks accept a mesh just where it is well formed
 module _ (m : Mesh) (sized : length (m .links) ≡ 256) where
@@ -77,6 +78,7 @@ module _ (m : Mesh) (sized : length (m .links) ≡ 256) where
     joins = λ i h. good i h .0;
     rises = λ i h. rw (add-one i) (good (suc i) (omega arith) .1);
     zeros = s .zeros;
+    ductless = s .ductless;
   }
     where
       s : Sound m

@@ -1,22 +1,26 @@
 -- What the answer of the mesh checks tells: each refusal is given only on its own condition. Assumes nothing, also not that there are 256 entries.
 use Prim.Native.Nat.{ℕ, zero, suc, _+_, _-_, _<_, _≤_}
-use mathlib.Core.Path.{_≡_, subst}
+use mathlib.Core.Path.{_≡_, refl, subst}
+use mathlib.Core.Logic.{⊎-elim}
+use mathlib.Core.Bool.{Bool, true, false, _&&_, and-eq-true-iff}
 use mathlib.Core.List.{List, [], _∷_}
 use native.Mathlib.Omega.{arith}
+use lib.Dec.{eqb}
 use lib.ListN.{length, getD, take, drop, length-take}
 use lib.Seq.{getD-take, getD-drop}
 use borrow.Author.Tests.{leb-true, leb-false}
-use Rattle.scan.specs.Test.{branch, fails, Says, le-says, and-says}
+use Rattle.scan.specs.Test.{branch, known, fails, Says, eq-says, le-says, and-says}
+use Rattle.scan.specs.All.{all, all-each, all-fails}
 use Rattle.mesh.specs.declared.Link.{Link}
 use Rattle.mesh.specs.declared.Mesh.{Mesh}
 use Rattle.mesh.specs.declared.Answer.{Answer}
 use Rattle.mesh.specs.declared.Answer.the-variants.{Refused}
-use Rattle.mesh.specs.Mesh.{zeroLink, nodesFit, countFits, linksAnswer, allZero, meshAnswer}
-use Rattle.mesh.specs.WellFormed.{link}
-use Rattle.mesh.specs.Refusal.{LinkFault, Faultless, previous, Refusal, nodes-unfit, count-unfit, first-fault, entry-not-zero}
+use Rattle.mesh.specs.Mesh.{zeroLink, nodesFit, countFits, linksAnswer, isZero, allZero, restZero, meshAnswer}
+use Rattle.mesh.specs.WellFormed.{link, duct}
+use Rattle.mesh.specs.Refusal.{LinkFault, Faultless, previous, Refusal, nodes-unfit, count-unfit, first-fault, entry-not-zero, duct-not-zero}
 use Rattle.mesh.specs.Laws.Answer.{Tells, accepting, refusing, told-refused, tells-map, tells-andThen}
 use Rattle.mesh.specs.Laws.Ends.{follows-says, ends-told}
-use Rattle.mesh.specs.Laws.Zeros.{each-zero, one-not-zero}
+use Rattle.mesh.specs.Laws.Zeros.{zero-says}
 
 -- ---- the links in turn
 
@@ -64,6 +68,7 @@ pub record Sound (m : Mesh) : Type 0 where
   pub count : m .count ≤ 256
   pub faultless : (i : ℕ) → i < m .count → i < length (m .links) → Faultless (m .nodes) (previous m i) (link m i)
   pub zeros : (i : ℕ) → m .count ≤ i → link m i ≡ zeroLink
+  pub ductless : (i : ℕ) → m .count ≤ i → duct m i ≡ 0
 
 -- link i and the link before it, among the first links
 module _ (m : Mesh) (i : ℕ) (h : i < m .count) where
@@ -76,26 +81,49 @@ module _ (m : Mesh) (i : ℕ) (h : i < m .count) where
   good-taken : (k : ℕ) → i < k → Good (m .nodes) zeroLink (take (m .count) (m .links)) k → Faultless (m .nodes) (previous m i) (link m i)
   good-taken k b g = rw (previous-taken, link-taken) at (g i b)
 
+second-fails : (a b : Bool) → (a && b) ≡ false → a ≡ true → b ≡ false
+second-fails a b f t = rw t at f
+
+-- an entry or a duct number past the last link is not zero
+not-zero : (m : Mesh) → restZero m ≡ false → Refusal m 13 0
+not-zero m d = ⊎-elim numbers entries (known (allZero (drop (m .count) (m .links))))
+  where
+    entries : allZero (drop (m .count) (m .links)) ≡ false → Refusal m 13 0
+    entries e =
+        let (i, z) = all-fails isZero zeroLink (drop (m .count) (m .links)) e in
+        entry-not-zero (m .count + i) (omega arith) (rw getD-drop at (fails (zero-says (getD (drop (m .count) (m .links)) i zeroLink)) z))
+
+    numbers : allZero (drop (m .count) (m .links)) ≡ true → Refusal m 13 0
+    numbers e =
+        let (i, z) = all-fails (λ v. eqb v 0) 0 (drop (m .count) (m .ducts)) (second-fails _ _ d e) in
+        duct-not-zero (m .count + i) (omega arith) (rw getD-drop at (fails (eq-says (getD (drop (m .count) (m .ducts)) i 0) 0) z))
+
 pub mesh-told : (m : Mesh) → Tells (Sound m) (Refusal m) (meshAnswer m)
 unfolding meshAnswer
 mesh-told m =
     branch Told (nodesFit (m .nodes))
     (λ a. branch Told (countFits (m .count))
     (λ b. tells-andThen (links-told (m .nodes) zeroLink 0 (take (m .count) (m .links)))
-    (λ c. branch Told (allZero (drop (m .count) (m .links)))
-    (λ d. accepting (record {
+    (λ c. branch Told (restZero m)
+    (λ d. let (e, f) = and-eq-true-iff (allZero (drop (m .count) (m .links))) _ .0 d in
+    accepting (record {
       nodes = nodes-says (m .nodes) .0 a;
       count = leb-true _ _ b;
       faultless = λ i h l. good-taken m i h _ (simp length-take (omega arith)) c;
-      zeros = λ i h. let s : m .count + (i - m .count) ≡ i = omega arith in rw (getD-drop, s) at (each-zero (drop (m .count) (m .links)) d (i - m .count));
+      zeros = λ i h. zero-says (link m i) .0 (past isZero zeroLink refl (m .links) e i h);
+      ductless = λ i h. eq-says (duct m i) 0 .0 (past (λ v. eqb v 0) 0 refl (m .ducts) f i h);
     }))
-    (λ d. let (i, z) = one-not-zero (drop (m .count) (m .links)) d in refusing (entry-not-zero (m .count + i) (omega arith) (rw getD-drop at z))))
+    (λ d. refusing (not-zero m d)))
     fault)
     (λ b. refusing (count-unfit (leb-false _ _ b))))
     (λ a. refusing (nodes-unfit (fails (nodes-says (m .nodes)) a)))
   where
     Told : Answer → Type 0
     Told = Tells (Sound m) (Refusal m)
+
+    -- where all from the count on pass, each does
+    past : {A : Type 0} (p : A → Bool) (z : A) → p z ≡ true → (l : List A) → all p (drop (m .count) l) ≡ true → (i : ℕ) → m .count ≤ i → p (getD l i z) ≡ true
+    past p z t l e i h = let s : m .count + (i - m .count) ≡ i = omega arith in rw (getD-drop, s) at (all-each p z t (drop (m .count) l) e (i - m .count))
 
     fault : (number place : ℕ) → FirstFault (m .nodes) zeroLink 0 (take (m .count) (m .links)) number place → Refusal m number place
     fault number place r =

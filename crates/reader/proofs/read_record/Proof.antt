@@ -7,11 +7,11 @@ use lib.Dec.{eqb}
 use lib.ListN.{length, getD}
 use borrow.Author.Needs.{needs}
 use borrow.Author.Tests.{lt-ltb, le-ltb, le-leb, lt-leb, eq-eqb, ne-eqb}
-use Rattle.mesh.specs.declared.Link.{Link}
 use Rattle.mesh.specs.Mesh.{must, linkAnswer}
 use Rattle.mesh.specs.Laws.Ends.{ends-accepted}
 use Rattle.fields.specs.Field.{bitMap}
-use Rattle.fields.specs.Record.{fieldsOf, linkOf, reserved, recordLength, recordAnswer}
+use Rattle.fields.specs.declared.Fields.{Fields}
+use Rattle.fields.specs.Record.{asLink, fieldsOf, fieldsAt, reserved, recordLength, recordAnswer}
 use Rattle.fields.specs.Laws.Needless.{record-needed}
 use Rattle.reader.specs.Laws.Read.{read-refused, read-accepted}
 use Rattle.reader.proofs.read_record.Statement.{statement}
@@ -25,8 +25,8 @@ unreserved c = sym (c .before .reserved .ensures) ∙ c .if2 .left
 whole : (c : tie.Else3)
     → let a = c .before .before .before .before .before .before .before .args in
     recordAnswer (a .nodes) (a .end) (a .prev) (a .at) (a .s .now)
-    ≡ must (eqb (bitMap (fieldsOf (a .prev) (linkOf (a .prev) (a .s .now)))) (getD (a .s .now) 0 0)) 9 (a .at)
-    (linkAnswer (a .nodes) (a .prev) (linkOf (a .prev) (a .s .now)) (a .at))
+    ≡ must (eqb (bitMap (fieldsOf (a .prev) (fieldsAt (a .prev) (a .s .now)))) (getD (a .s .now) 0 0)) 9 (a .at)
+    (linkAnswer (a .nodes) (a .prev) (asLink (fieldsAt (a .prev) (a .s .now))) (a .at))
 unfolding recordAnswer
 whole c =
     let d = c .before .before in
@@ -39,13 +39,13 @@ whole c =
       record-needed (a .prev) s (unreserved d),
     )
 
--- the bit map that is compared is the one that the link read would be written with
+-- the bit map that is compared is the one that the fields read would be written with
 read-map : (c : tie.After-bit-map)
     → let a = c .before .before .before .before .before .before .before .before .before .args in
-    c .bit-map .result ≡ bitMap (fieldsOf (a .prev) (linkOf (a .prev) (a .s .now)))
+    c .bit-map .result ≡ bitMap (fieldsOf (a .prev) (fieldsAt (a .prev) (a .s .now)))
 read-map c =
     let p = c .before .before .before .before .before .before .before .before .before .args .prev in
-    c .bit-map .ensures ∙ ap (λ (l : Link). bitMap (fieldsOf p l)) (c .before .fields-at .ensures)
+    c .bit-map .ensures ∙ ap (λ (f : Fields). bitMap (fieldsOf p f)) (c .before .fields-at .ensures)
 
 -- no field is needless, so the ends decide
 ends-decide : (c : tie.After-ends-answer)
@@ -57,7 +57,7 @@ ends-decide c =
     let a = w .before .before .before .before .before .before .before .args in
     whole w
     ∙ rw (eq-eqb _ (getD (a .s .now) 0 0) (sym (read-map (d .before)) ∙ d .if4 .left))
-    (sym (c .ends-answer .ensures ∙ ap (λ (l : Link). linkAnswer (a .nodes) (a .prev) l (a .at)) (d .before .before .fields-at .ensures)))
+    (sym (c .ends-answer .ensures ∙ ap (λ (f : Fields). linkAnswer (a .nodes) (a .prev) (asLink f) (a .at)) (d .before .before .fields-at .ensures)))
 
 refused-requires : tie.Need-refused-requires
 refused-requires c κs = search needs

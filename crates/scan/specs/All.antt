@@ -1,0 +1,60 @@
+-- Whether every element of a list passes a test, and the loop that looks at each. Assumes nothing.
+use Prim.Native.Nat.{ℕ, zero, suc, _+_, _≤_, _<_}
+use mathlib.Core.Path.{_≡_, refl, sym, _∙_}
+use mathlib.Core.Logic.{⊎-elim}
+use mathlib.Core.Bool.{Bool, true, false, _&&_, and-eq-true-iff}
+use mathlib.Core.List.{List, [], _∷_}
+use native.Mathlib.Numerals.{add-one}
+use native.Mathlib.Omega.{arith}
+use lib.ListN.{length, getD, drop, replicate, drop-of-length-le}
+use lib.Seq.{drop-cons}
+use Rattle.scan.specs.Test.{clash, known}
+
+-- every element passes
+unfoldable pub all : {A : Type 0} → (A → Bool) → List A → Bool
+all p [] = true
+all p (a ∷ l) = p a && all p l
+
+module _ {A : Type 0} (p : A → Bool) where
+  -- each element passes, also one past the end that does
+  pub all-each : (a : A) → p a ≡ true → (l : List A) → all p l ≡ true → (i : ℕ) → p (getD l i a) ≡ true
+  unfolding all
+  all-each a t [] e i = t
+  all-each a t (b ∷ l) e zero = and-eq-true-iff (p b) (all p l) .0 e .0
+  all-each a t (b ∷ l) e (suc i) = all-each a t l (and-eq-true-iff (p b) (all p l) .0 e .1) i
+
+  -- one does not
+  pub all-fails : (a : A) (l : List A) → all p l ≡ false → (i : ℕ) × (p (getD l i a) ≡ false)
+  unfolding all
+  all-fails a [] f = clash refl f
+  all-fails a (b ∷ l) f =
+      ⊎-elim
+      (λ t. let (i, h) = all-fails a l (sym (rw t) ∙ f) in (suc i, h))
+      (λ t. (0, t))
+      (known (p b))
+
+  -- a list of which each element is a
+  pub all-same : (a : A) → ((b : A) → p b ≡ true → b ≡ a) → (l : List A) → all p l ≡ true → l ≡ replicate (length l) a
+  unfolding all
+  all-same a h [] e = refl
+  all-same a h (b ∷ l) e = let (s, t) = and-eq-true-iff (p b) (all p l) .0 e in λ j. h b s j ∷ all-same a h l t j
+
+  pub all-replicate : (n : ℕ) (a : A) → p a ≡ true → all p (replicate n a) ≡ true
+  unfolding all
+  all-replicate zero a t = refl
+  all-replicate (suc n) a t = rw t (all-replicate n a t)
+
+  module _ (l : List A) (i : ℕ) where
+    pub all-step : (a : A) → i < length l → all p (drop i l) ≡ (p (getD l i a) && all p (drop (i + 1) l))
+    unfolding all
+    all-step a h = rw (drop-cons l i a h, add-one i)
+
+    -- element i is looked at, or there is none; b says whether those before it pass
+    pub all-next : (a : A) (b : Bool) → i < length l → (b && all p (drop i l)) ≡ ((b && p (getD l i a)) && all p (drop (i + 1) l))
+    all-next a true h = all-step a h
+    all-next a false h = refl
+
+    pub all-end : (b : Bool) → length l ≤ i → (b && all p (drop i l)) ≡ b
+    unfolding all
+    all-end true h = rw (drop-of-length-le l h)
+    all-end false h = refl
