@@ -1,12 +1,12 @@
 -- Parts of a list, as loops over the first k elements and slices of a slice have them. Assumes nothing.
-use Prim.Native.Nat.{ℕ, _+_, _-_, _≤_, _<_, min}
-use mathlib.Core.Path.{_≡_, sym, _∙_, ap}
+use Prim.Native.Nat.{ℕ, zero, suc, _+_, _-_, _≤_, _<_, min}
+use mathlib.Core.Path.{_≡_, refl, sym, _∙_, ap}
 use mathlib.Core.List.{List, [], _∷_, map}
 use native.Mathlib.Nat.{add-zero}
 use native.Mathlib.Numerals.{add-one}
 use native.Mathlib.Decide.{decLt}
 use native.Mathlib.Omega.{arith}
-use lib.ListN.{length, getD, take, drop, length-map, length-take, length-drop, drop-of-length-le, List·getD-eq-default}
+use lib.ListN.{length, getD, take, drop, replicate, length-map, length-take, length-drop, drop-of-length-le, List·getD-eq-default}
 use lib.Seq.{drop-cons, getD-take, getD-drop, length-take-le, take-all}
 
 -- the length of an array of structs, which owning it tells of the list mapped
@@ -48,3 +48,19 @@ each-taken P d l k h i = go (decLt i k)
     go (no b) =
         rw (List·getD-eq-default (take k l) d {n = i} (simp length-take (omega arith)))
         (rw (List·getD-eq-default l d {n = length l} (omega arith)) at (h (length l)))
+
+-- parts of a list to whose elements a function is applied
+module _ {A B : Type 0} (f : A → B) where
+  pub map-take : (k : ℕ) (l : List A) → map f (take k l) ≡ take k (map f l)
+  map-take zero l = refl
+  map-take (suc k) [] = refl
+  map-take (suc k) (a ∷ l) = λ j. f a ∷ map-take k l j
+
+  pub map-drop : (k : ℕ) (l : List A) → map f (drop k l) ≡ drop k (map f l)
+  map-drop zero l = refl
+  map-drop (suc k) [] = refl
+  map-drop (suc k) (a ∷ l) = map-drop k l
+
+  pub map-replicate : (n : ℕ) (a : A) → map f (replicate n a) ≡ replicate n (f a)
+  map-replicate zero a = refl
+  map-replicate (suc n) a = λ j. f a ∷ map-replicate n a j

@@ -8,7 +8,7 @@ use Rattle.mesh.specs.declared.Link.{Link}
 use Rattle.mesh.specs.declared.Answer.the-variants.{Accepted, Refused}
 use Rattle.mesh.specs.Mesh.{zeroLink}
 use Rattle.mesh.specs.Laws.Answer.{andThen-accepted}
-use Rattle.fields.specs.Record.{recordLength, linkOf, recordAnswer}
+use Rattle.fields.specs.Record.{asLink, fieldsAt, recordLength, recordAnswer}
 use Rattle.codec.specs.Book.{decodedAs, headerAnswer, recordsAnswer, bookAnswer, meshOf, decoded}
 use Rattle.fields.specs.Laws.Record.{GoodRecord, record-accepted}
 use Rattle.reader.specs.Laws.Header.{GoodHeader, header-accepted}
@@ -16,7 +16,7 @@ use Rattle.reader.specs.Laws.Header.{GoodHeader, header-accepted}
 -- at least one record is read, and then the others
 pub records-accepted : (n end : ℕ) (p : Link) (at k : ℕ) (s : List ℕ) → recordsAnswer n end p at (suc k) s ≡ Accepted
     → GoodRecord n p at s
-    × (recordsAnswer n end (linkOf p s) (at + recordLength (getD s 0 0)) k (drop (recordLength (getD s 0 0)) s) ≡ Accepted)
+    × (recordsAnswer n end (asLink (fieldsAt p s)) (at + recordLength (getD s 0 0)) k (drop (recordLength (getD s 0 0)) s) ≡ Accepted)
 unfolding recordsAnswer
 records-accepted n end p at k s e =
     let (first, rest) = andThen-accepted (recordAnswer n end p at s) _ e in

@@ -15,7 +15,7 @@ use Rattle.mesh.specs.declared.Answer.the-variants.{Accepted, Refused}
 use Rattle.mesh.specs.Mesh.{zeroLink}
 use Rattle.mesh.specs.Laws.Answer.{must-accepted, andThen-accepted}
 use Rattle.codec.specs.declared.locate.Span.{Span}
-use Rattle.fields.specs.Record.{recordLength, linkOf}
+use Rattle.fields.specs.Record.{asLink, fieldsAt, recordLength}
 use Rattle.codec.specs.Book.{spanAs, recordsAnswer, bookAnswer, meshOf, decoded, recordStart, spanAnswer, spanOf}
 use Rattle.codec.specs.Laws.Accepted.{records-accepted, book-accepted, decoded-mesh}
 use Rattle.fields.specs.Laws.Record.{GoodRecord}
@@ -35,7 +35,7 @@ module _ (s : List ℕ) (i : ℕ) (S : Starts s i) (few : i < number 2 s 2) wher
   at = recordStart s i
 
   split : GoodRecord (getD s 1 0) (S .prev) at (drop at s)
-      × (recordsAnswer (getD s 1 0) (length s) (linkOf (S .prev) (drop at s)) (at + recordLength (getD (drop at s) 0 0)) (number 2 s 2 - (i + 1))
+      × (recordsAnswer (getD s 1 0) (length s) (asLink (fieldsAt (S .prev) (drop at s))) (at + recordLength (getD (drop at s) 0 0)) (number 2 s 2 - (i + 1))
       (drop (recordLength (getD (drop at s) 0 0)) (drop at s)) ≡ Accepted)
   split = records-accepted (getD s 1 0) (length s) (S .prev) at (number 2 s 2 - (i + 1)) (drop at s) (rw (left-next (number 2 s 2) i few) at (S .answer))
 
@@ -48,7 +48,7 @@ module _ (s : List ℕ) (i : ℕ) (S : Starts s i) (few : i < number 2 s 2) wher
 
   starts-next : Starts s (suc i)
   starts-next = record {
-    prev = linkOf (S .prev) (drop at s);
+    prev = asLink (fieldsAt (S .prev) (drop at s));
     answer = rw (start-next s i, ← drop-drop (recordLength (getD s at 0)) at s, ← add-one i) (rw (front s at) at (split .1));
   }
 

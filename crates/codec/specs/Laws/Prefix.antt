@@ -13,25 +13,25 @@ use Rattle.mesh.specs.declared.Link.{Link}
 use Rattle.mesh.specs.declared.Answer.{Answer}
 use Rattle.mesh.specs.declared.Answer.the-variants.{Accepted, Refused}
 use Rattle.mesh.specs.Mesh.{zeroLink}
-use Rattle.fields.specs.Record.{longestRecord, recordLength, linkOf}
-use Rattle.codec.specs.Book.{longestBook, headerAnswer, recordsAnswer, linksOf, bookAnswer, meshOf, decoded}
+use Rattle.fields.specs.Record.{asLink, longestRecord, recordLength, fieldsAt}
+use Rattle.codec.specs.Book.{longestBook, headerAnswer, recordsAnswer, fieldsFrom, bookAnswer, meshOf, decoded}
 use Rattle.reader.specs.Laws.Header.{header-accepted}
-use Rattle.fields.specs.Laws.Record.{recordLength-most, map-append, link-append, record-append}
+use Rattle.fields.specs.Laws.Record.{recordLength-most, map-append, fields-append, record-append}
 
 -- ---- the records of a book
 
 -- k records, and a byte past them
 records-append : (n end end′ : ℕ) (p : Link) (at k : ℕ) (s more : List ℕ) → longestRecord * k < length s
-    → (recordsAnswer n end′ p at k (s ++ more) ≡ recordsAnswer n end p at k s) × (linksOf p k (s ++ more) ≡ linksOf p k s)
-unfolding recordsAnswer linksOf
+    → (recordsAnswer n end′ p at k (s ++ more) ≡ recordsAnswer n end p at k s) × (fieldsFrom p k (s ++ more) ≡ fieldsFrom p k s)
+unfolding recordsAnswer fieldsFrom
 records-append n end end′ p at zero s more h =
     (rw (length-append s more, ne-eqb (length s) 0 (λ e. omega arith), ne-eqb (length s + length more) 0 (λ e. omega arith)), refl)
 records-append n end end′ p at (suc k) s more h =
     let b = recordLength (getD s 0 0) in
     let most = recordLength-most (getD s 0 0) in
     let long : longestRecord ≤ length s = omega arith in
-    let rest = records-append n end end′ (linkOf p s) (at + b) k (drop b s) more (rw (length-drop b s) (omega arith)) in
-    rw (record-append s more long n end end′ p at, map-append s more long, link-append s more long p, drop-append-le b s more (omega arith))
+    let rest = records-append n end end′ (asLink (fieldsAt p s)) (at + b) k (drop b s) more (rw (length-drop b s) (omega arith)) in
+    rw (record-append s more long n end end′ p at, map-append s more long, fields-append s more long p, drop-append-le b s more (omega arith))
     (rw (rest .0, rest .1) (refl, refl))
 
 -- ---- the whole book

@@ -8,10 +8,9 @@ use Rattle.scan.specs.Entry.{at}
 use Rattle.mesh.specs.declared.Link.{Link}
 use Rattle.mesh.specs.declared.Mesh.{Mesh}
 use Rattle.mesh.specs.Mesh.{zeroLink}
-use Rattle.mesh.specs.WellFormed.{link, duct}
 use Rattle.fields.specs.declared.Fields.{Fields}
 use Rattle.fields.specs.Record.{asLink, asFields, zeroFields}
-use Rattle.fields.specs.Entries.{joined, entriesOf, meshWith}
+use Rattle.fields.specs.Entries.{joined, entriesOf, entry, meshWith}
 
 -- ---- links and duct numbers, entry by entry
 
@@ -92,6 +91,6 @@ mesh-entries m e = λ j. record { nodes = m .nodes; count = m .count; links = li
 pub length-entries : (m : Mesh) → Even m → length (entriesOf m) ≡ length (m .links)
 length-entries m e = length-joined (m .links) (m .ducts) e
 
--- entry i is link i with its duct number
-pub entry-is : (m : Mesh) → Even m → (i : ℕ) → getD (entriesOf m) i zeroFields ≡ asFields (link m i) (duct m i)
+-- entry i has the fields of link i
+pub entry-is : (m : Mesh) → Even m → (i : ℕ) → getD (entriesOf m) i zeroFields ≡ entry m i
 entry-is m e i = joined-at (m .links) (m .ducts) e i
