@@ -1,3 +1,4 @@
 pub mod Main
 pub mod Bench
+pub mod DuctBench
 pub mod Laws

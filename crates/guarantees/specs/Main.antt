@@ -11,11 +11,12 @@ use Rattle.scan.specs.Bytes.{AreBytes}
 use Rattle.mesh.specs.declared.Mesh.{Mesh}
 use Rattle.mesh.specs.declared.Answer.the-variants.{Accepted, Refused}
 use Rattle.mesh.specs.Mesh.{meshAnswer}
-use Rattle.mesh.specs.WellFormed.{WellFormed, InRange, link}
+use Rattle.mesh.specs.WellFormed.{WellFormed, InRange, duct, SameEnds}
 use Rattle.mesh.specs.Refusal.{Refusal, previous}
 use Rattle.mesh.specs.Laws.Checked.{checks}
 use Rattle.mesh.specs.Laws.Refused.{refused-only}
 use Rattle.fields.specs.Record.{recordOf}
+use Rattle.fields.specs.Entries.{entry}
 use Rattle.codec.specs.Book.{longestBook, bookOf, encoded, outputAfter, decoded, spanAnswer, recordPart}
 use Rattle.codec.specs.Laws.Written.{decoded-output, book-most}
 use Rattle.codec.specs.Laws.Read.{decoded-accepted, decoded-in-range, output-decoded, one-book, accepted-most}
@@ -106,11 +107,11 @@ decode-in-range = decoded-in-range
 
 -- showing the record of a link in the book of a mesh is accepted, and its bytes are that link's record after the link before
 pub record-stands : (m : Mesh) → InRange m → meshAnswer m ≡ Accepted → (k : ℕ) → k < m .count
-    → (spanAnswer (bookOf m) k ≡ Accepted) × (recordPart (bookOf m) k ≡ recordOf (previous m k) (link m k))
+    → (spanAnswer (bookOf m) k ≡ Accepted) × (recordPart (bookOf m) k ≡ recordOf (previous m k) (entry m k))
 record-stands = record-shown
 
--- a book has at most 2,308 bytes
-pub longest-book : longestBook ≡ 2308
+-- a book has at most 2,820 bytes
+pub longest-book : longestBook ≡ 2820
 longest-book = refl
 
 pub book-length : (m : Mesh) → meshAnswer m ≡ Accepted → length (bookOf m) ≤ longestBook
@@ -274,6 +275,51 @@ demand-three-carried = demand-carried
 -- each made since it, and the later calls. So the theorems above on such lists speak of it too
 pub carry-over-replayed : (m : OldMesh) → oldRecord.InRange m → Planned m → (olds : List oldCalls.Call) (calls : List Call) → Replays m olds calls
 carry-over-replayed = replayed-same
+
+-- ---- 02, request 4: duct numbers (contract: crates/ducts/src/lib.rt, `sharing`; in the book: the theorems on reading and writing above)
+
+-- the query's list holds exactly the links that share the duct of the named link, that one included, in rising order, so each once
+pub ducts-listed : (m : Mesh) (k : ℕ) → k < m .count → Lists m k (sharing m k)
+ducts-listed = sharing-lists
+
+-- it is the same list, in the same order, for every link of the duct
+pub ducts-same : (m : Mesh) (k i : ℕ) → k < m .count → List·Memᴰ i (sharing m k) → sharing m i ≡ sharing m k
+ducts-same = sharing-same
+
+-- and the link by itself where it has no duct
+pub ducts-alone : (m : Mesh) (k : ℕ) → k < m .count → duct m k ≡ 0 → sharing m k ≡ k ∷ []
+ducts-alone = sharing-alone
+
+-- the query accepts a mesh that passes the checks, a link of it and an output with an entry for each link that is listed, never more than there are links
+pub ducts-accepted : (m : Mesh) (k room : ℕ) → meshAnswer m ≡ Accepted → k < m .count → length (sharing m k) ≤ room → shared m k room .answer ≡ Accepted
+ducts-accepted = accepts
+
+pub ducts-most : (m : Mesh) (k : ℕ) → length (sharing m k) ≤ m .count
+ducts-most = sharing-most
+
+-- then the answer has the list's number, the list stands at the front of the output, and the entries past it are as they were
+pub ducts-written : (m : Mesh) (k : ℕ) (out : List ℕ) → shared m k (length out) .answer ≡ Accepted
+    → (shared m k (length out) .count ≡ length (sharing m k))
+    × (take (length (sharing m k)) (output.outputAfter m k out) ≡ sharing m k)
+    × (drop (length (sharing m k)) (output.outputAfter m k out) ≡ drop (length (sharing m k)) out)
+ducts-written = accepted-writes
+
+-- any other is refused on its own condition, at its own place, and the output stays as it was
+pub ducts-refused : (m : Mesh) (k : ℕ) (out : List ℕ) (number place : ℕ) → shared m k (length out) .answer ≡ Refused number place
+    → ducts.Refusal m k (length out) number place × (output.outputAfter m k out ≡ out)
+ducts-refused m k out number place e = (refused-query m k (length out) number place e, refused-writes m k out e)
+
+-- neither the plan nor the back-up arcs depend on ducts, nor on lengths and fibre pairs
+pub plan-by-ends : (m m′ : Mesh) → SameEnds m m′ → meshAnswer m ≡ Accepted → meshAnswer m′ ≡ Accepted → planned m ≡ planned m′
+plan-by-ends = planned-by-ends
+
+pub arcs-by-ends : (m m′ : Mesh) → SameEnds m m′ → meshAnswer m ≡ Accepted → meshAnswer m′ ≡ Accepted
+    → (p : Plan) (w : Wavelength) → backupOn w m p ≡ backupOn w m′ p
+arcs-by-ends = backup-by-ends
+
+-- a book with ducts read, the query on its mesh, and damaged records with the new field
+pub ducts-bench : ductRows.Holds
+ducts-bench = ductsComputed.computed
 
 -- ---- 01's bench examples marked P
 

@@ -4,12 +4,13 @@ use mathlib.Core.Path.{_≡_, refl, _∙_, ap}
 use mathlib.Core.Bool.{Bool, true, _&&_, and-eq-true-iff}
 use mathlib.Core.Logic.{⊎-elim}
 use mathlib.Core.List.{List, [], _∷_, List·Memᴰ, List·Memᴰ·not-nil, List·Memᴰ·cases-cons}
+use Rattle.scan.specs.All.{all}
 use Rattle.scan.specs.Lowest.{lowest, lowestFrom, any, every}
 use Rattle.graph.specs.Reach.{markWay, markLink, markLinks, rounds, reached, reaches}
 use Rattle.graph.specs.Plan.{connects, unreached, parts, assignments, firstThat, plan}
-use Rattle.mesh.specs.Mesh.{endsAnswer, linksAnswer, allZero, meshAnswer}
-use Rattle.fields.specs.Record.{recordLength, linkOf, recordAnswer}
-use Rattle.codec.specs.Book.{headerAnswer, recordsAnswer, linksOf, bookAnswer, meshOf, decoded}
+use Rattle.mesh.specs.Mesh.{endsAnswer, linksAnswer, meshAnswer}
+use Rattle.fields.specs.Record.{recordLength, fieldsAt, recordAnswer}
+use Rattle.codec.specs.Book.{headerAnswer, recordsAnswer, fieldsFrom, bookAnswer, meshOf, decoded}
 use Rattle.planner.specs.Plan.{planAnswer, planned}
 use Rattle.scan.specs.Sweep.{sweep, sweepFrom}
 use Rattle.scan.specs.Total.{total, count}
@@ -50,8 +51,8 @@ each (q ∷ rs) e r o =
 
 -- the whole table, computed
 computed : allHold table ≡ true
-unfolding decoded bookAnswer headerAnswer recordsAnswer recordAnswer recordLength linkOf linksOf meshOf endsAnswer
-    planned planAnswer meshAnswer linksAnswer allZero lowest lowestFrom any every unreached parts connects reaches reached rounds markLinks markLink markWay
+unfolding decoded bookAnswer headerAnswer recordsAnswer recordAnswer recordLength fieldsAt fieldsFrom meshOf endsAnswer
+    planned planAnswer meshAnswer linksAnswer all lowest lowestFrom any every unreached parts connects reaches reached rounds markLinks markLink markWay
     plan firstThat assignments
     started startAnswer planFault floodFault floodsFault overflows isOver strays isStray recordSession afterCut cutAnswer afterDelivery deliverAnswer afterRun runAnswer
     turns passing after fresh machine.begin offer sweep sweepFrom leaves opens machine.step arrive withdraw retreat machine.accepts underWay live holds′ feeds first some
