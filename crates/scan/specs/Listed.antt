@@ -241,6 +241,10 @@ module _ {p : ℕ → Bool} {i n : ℕ} {out₀ out : List ℕ} (s : Stored p i 
   pub stored-length : length out ≡ length out₀
   stored-length = ap length (s .stored) ∙ length-sets out₀ 0 (passing p i)
 
+  -- no more are stored than there are
+  pub stored-le : n ≤ i
+  stored-le = omega (arith, s .counted, passing-le p i)
+
   -- one that passes has room where all below m have
   pub stored-room : (m : ℕ) → length (passing p m) ≤ length out₀ → i < m → p i ≡ true → n < length out
   stored-room m h l t = omega (arith, s .counted, stored-length, passing-less p m i l t)
