@@ -1,0 +1,71 @@
+-- The query by duct meets 02: each refusal on its own condition, acceptance else; the list at the front of the output, which stays as it was past it, and whole on a refusal. Assumes nothing.
+use Prim.Native.Nat.{ℕ, _<_, _≤_}
+use mathlib.Core.Path.{_≡_, refl, sym, subst, _∙_}
+use mathlib.Core.List.{List}
+use borrow.Author.Tests.{ltb-true, ltb-false, leb-false, lt-ltb, le-leb}
+use lib.Dec.{ltb, leb}
+use lib.ListN.{length, take, drop}
+use lib.Seq.{take-append-seam, drop-append-seam}
+use Rattle.scan.specs.Test.{branch}
+use Rattle.mesh.specs.declared.Mesh.{Mesh}
+use Rattle.mesh.specs.declared.Answer.{Answer}
+use Rattle.mesh.specs.declared.Answer.the-variants.{Accepted, Refused}
+use Rattle.mesh.specs.Mesh.{meshAnswer}
+use Rattle.mesh.specs.Laws.Answer.{Tells, accepting, refusing, told-refused, tells-andThen}
+use Rattle.ducts.specs.Sharing.{sharing, sharingAnswer, sharedAs, shared, outputAfter}
+use Rattle.ducts.specs.Meaning.{Refusal, mesh-refused, no-such-link, output-short}
+
+-- ---- the answer
+
+-- an answer tells of itself
+itself : (a : Answer) → Tells (a ≡ Accepted) (λ number place. a ≡ Refused number place) a
+itself Accepted = accepting refl
+itself (Refused number place) = refusing refl
+
+told : (m : Mesh) (k room : ℕ) → Tells (Unit {0}) (Refusal m k room) (sharingAnswer m k room)
+unfolding sharingAnswer
+told m k room =
+    tells-andThen (itself (meshAnswer m))
+    (λ e. branch (Tells (Unit {0}) (Refusal m k room)) (ltb k (m .count))
+    (λ b. branch (Tells (Unit {0}) (Refusal m k room)) (leb (length (sharing m k)) room)
+    (λ c. accepting tt)
+    (λ c. refusing (output-short e (ltb-true _ _ b) (leb-false _ _ c))))
+    (λ b. refusing (no-such-link e (ltb-false _ _ b))))
+    (λ number place e. mesh-refused e)
+
+answered : (m : Mesh) (k room : ℕ) → shared m k room .answer ≡ sharingAnswer m k room
+unfolding shared
+answered m k room = go (sharingAnswer m k room)
+  where
+    go : (a : Answer) → sharedAs a (length (sharing m k)) .answer ≡ a
+    go Accepted = refl
+    go (Refused number place) = refl
+
+-- each refusal on its own condition
+pub refused-only : (m : Mesh) (k room number place : ℕ) → shared m k room .answer ≡ Refused number place → Refusal m k room number place
+refused-only m k room number place e = told-refused (subst (Tells (Unit {0}) (Refusal m k room)) (sym (answered m k room) ∙ e) (told m k room))
+
+-- acceptance where none of the conditions holds
+pub accepts : (m : Mesh) (k room : ℕ) → meshAnswer m ≡ Accepted → k < m .count → length (sharing m k) ≤ room → shared m k room .answer ≡ Accepted
+unfolding sharingAnswer
+accepts m k room h l r = answered m k room ∙ rw (h, lt-ltb k (m .count) l, le-leb _ room r)
+
+-- ---- the output
+
+module _ (m : Mesh) (k : ℕ) (out : List ℕ) where
+  -- the list is written, and past it the output is as it was
+  pub accepted-writes : shared m k (length out) .answer ≡ Accepted
+      → (shared m k (length out) .count ≡ length (sharing m k))
+      × (take (length (sharing m k)) (outputAfter m k out) ≡ sharing m k)
+      × (drop (length (sharing m k)) (outputAfter m k out) ≡ drop (length (sharing m k)) out)
+  unfolding shared outputAfter
+  accepted-writes e =
+      let a : sharingAnswer m k (length out) ≡ Accepted = sym (answered m k (length out)) ∙ e in
+      (rw a, rw a (take-append-seam (sharing m k) _), rw a (drop-append-seam (sharing m k) _))
+
+  -- a refusal leaves it as it was
+  pub refused-keeps : (number place : ℕ) → shared m k (length out) .answer ≡ Refused number place → outputAfter m k out ≡ out
+  unfolding outputAfter
+  refused-keeps number place e =
+      let a : sharingAnswer m k (length out) ≡ Refused number place = sym (answered m k (length out)) ∙ e in
+      rw a
