@@ -1,8 +1,11 @@
--- What the query by duct gives on each way out of it. Serves the proof of `sharing`. Assumes nothing.
+-- What the test of a link and the query by duct give on each way out of them. Serves the proofs of `is_shared` and `sharing`. Assumes nothing.
 use Prim.Native.Nat.{ℕ, _<_, _≤_}
 use mathlib.Core.Path.{_≡_, sym, _∙_}
+use mathlib.Core.Logic.{_≢_}
+use mathlib.Core.Bool.{true, false}
 use mathlib.Core.List.{List}
-use borrow.Author.Tests.{lt-ltb, le-ltb, le-leb, lt-leb}
+use borrow.Author.Tests.{lt-ltb, le-ltb, le-leb, lt-leb, eq-eqb, ne-eqb}
+use lib.Dec.{eqb}
 use lib.ListN.{length}
 use lib.Seq.{sets}
 use Rattle.scan.specs.Store.{sets-front}
@@ -12,7 +15,24 @@ use Rattle.mesh.specs.declared.Answer.the-variants.{Accepted, Refused}
 use Rattle.mesh.specs.Mesh.{meshAnswer}
 use Rattle.mesh.specs.WellFormed.{duct}
 use Rattle.ducts.specs.declared.Shared.{Shared}
-use Rattle.ducts.specs.Sharing.{linksSharing, sharing, sharingAnswer, sharedAs, shared, outputAfter}
+use Rattle.ducts.specs.Sharing.{shares, linksSharing, sharing, sharingAnswer, sharedAs, shared, outputAfter}
+
+-- ---- the test
+
+module _ (ducts : ℕ → ℕ) (k i : ℕ) where
+  -- it is the named link
+  pub shares-itself : i ≡ k → true ≡ shares ducts k i
+  shares-itself e = rw (eq-eqb i k e)
+
+  -- the named link has no duct
+  pub shares-none : i ≢ k → ducts k ≡ 0 → false ≡ shares ducts k i
+  shares-none n z = rw (ne-eqb i k n, eq-eqb (ducts k) 0 z)
+
+  -- it has one
+  pub shares-duct : i ≢ k → ducts k ≢ 0 → eqb (ducts i) (ducts k) ≡ shares ducts k i
+  shares-duct n z = rw (ne-eqb i k n, ne-eqb (ducts k) 0 z)
+
+-- ---- the query
 
 -- the result r and the output `after` are what asking for the links of link k's duct gives
 abbrev pub Gives : Mesh → ℕ → List ℕ → Shared → List ℕ → Type 0

@@ -2,7 +2,7 @@
 use Prim.Native.Nat.{ℕ, _<_, _≤_}
 use mathlib.Core.Path.{_≡_, refl, sym, subst, _∙_}
 use mathlib.Core.List.{List}
-use borrow.Author.Tests.{ltb-true, ltb-false, leb-false, lt-ltb, le-leb}
+use borrow.Author.Tests.{ltb-true, ltb-false, leb-true, leb-false, lt-ltb, le-leb}
 use lib.Dec.{ltb, leb}
 use lib.ListN.{length, take, drop}
 use lib.Seq.{take-append-seam, drop-append-seam}
@@ -11,9 +11,10 @@ use Rattle.mesh.specs.declared.Mesh.{Mesh}
 use Rattle.mesh.specs.declared.Answer.{Answer}
 use Rattle.mesh.specs.declared.Answer.the-variants.{Accepted, Refused}
 use Rattle.mesh.specs.Mesh.{meshAnswer}
-use Rattle.mesh.specs.Laws.Answer.{Tells, accepting, refusing, told-refused, tells-andThen}
+use Rattle.mesh.specs.Laws.Answer.{Tells, accepting, refusing, told-accepted, told-refused, tells-andThen}
 use Rattle.ducts.specs.Sharing.{sharing, sharingAnswer, sharedAs, shared, outputAfter}
-use Rattle.ducts.specs.Meaning.{Refusal, mesh-refused, no-such-link, output-short}
+use Rattle.ducts.specs.Meaning.{Lists, Refusal, mesh-refused, no-such-link, output-short}
+use Rattle.ducts.specs.Laws.Sharing.{sharing-lists}
 
 -- ---- the answer
 
@@ -22,13 +23,17 @@ itself : (a : Answer) → Tells (a ≡ Accepted) (λ number place. a ≡ Refused
 itself Accepted = accepting refl
 itself (Refused number place) = refusing refl
 
-told : (m : Mesh) (k room : ℕ) → Tells (Unit {0}) (Refusal m k room) (sharingAnswer m k room)
+-- the mesh passes its checks, the link is one of it, and the list fits
+abbrev Passed : Mesh → ℕ → ℕ → Type 0
+Passed m k room = (meshAnswer m ≡ Accepted) × (k < m .count) × (length (sharing m k) ≤ room)
+
+told : (m : Mesh) (k room : ℕ) → Tells (Passed m k room) (Refusal m k room) (sharingAnswer m k room)
 unfolding sharingAnswer
 told m k room =
     tells-andThen (itself (meshAnswer m))
-    (λ e. branch (Tells (Unit {0}) (Refusal m k room)) (ltb k (m .count))
-    (λ b. branch (Tells (Unit {0}) (Refusal m k room)) (leb (length (sharing m k)) room)
-    (λ c. accepting tt)
+    (λ e. branch (Tells (Passed m k room) (Refusal m k room)) (ltb k (m .count))
+    (λ b. branch (Tells (Passed m k room) (Refusal m k room)) (leb (length (sharing m k)) room)
+    (λ c. accepting (e, ltb-true _ _ b, leb-true _ _ c))
     (λ c. refusing (output-short e (ltb-true _ _ b) (leb-false _ _ c))))
     (λ b. refusing (no-such-link e (ltb-false _ _ b))))
     (λ number place e. mesh-refused e)
@@ -43,9 +48,12 @@ answered m k room = go (sharingAnswer m k room)
 
 -- each refusal on its own condition
 pub refused-only : (m : Mesh) (k room number place : ℕ) → shared m k room .answer ≡ Refused number place → Refusal m k room number place
-refused-only m k room number place e = told-refused (subst (Tells (Unit {0}) (Refusal m k room)) (sym (answered m k room) ∙ e) (told m k room))
+refused-only m k room number place e = told-refused (subst (Tells (Passed m k room) (Refusal m k room)) (sym (answered m k room) ∙ e) (told m k room))
 
--- acceptance where none of the conditions holds
+-- acceptance exactly where none of the conditions holds
+pub accepted-only : (m : Mesh) (k room : ℕ) → shared m k room .answer ≡ Accepted → (meshAnswer m ≡ Accepted) × (k < m .count) × (length (sharing m k) ≤ room)
+accepted-only m k room e = told-accepted (subst (Tells (Passed m k room) (Refusal m k room)) (sym (answered m k room) ∙ e) (told m k room))
+
 pub accepts : (m : Mesh) (k room : ℕ) → meshAnswer m ≡ Accepted → k < m .count → length (sharing m k) ≤ room → shared m k room .answer ≡ Accepted
 unfolding sharingAnswer
 accepts m k room h l r = answered m k room ∙ rw (h, lt-ltb k (m .count) l, le-leb _ room r)
@@ -62,6 +70,12 @@ module _ (m : Mesh) (k : ℕ) (out : List ℕ) where
   accepted-writes e =
       let a : sharingAnswer m k (length out) ≡ Accepted = sym (answered m k (length out)) ∙ e in
       (rw a, rw a (take-append-seam (sharing m k) _), rw a (drop-append-seam (sharing m k) _))
+
+  -- so what is told to be written lists exactly the links that share the duct
+  pub accepted-lists : shared m k (length out) .answer ≡ Accepted → Lists m k (take (shared m k (length out) .count) (outputAfter m k out))
+  accepted-lists e =
+      let (n, written, kept) = accepted-writes e in
+      rw (n, written) (sharing-lists m k (accepted-only m k (length out) e .1))
 
   -- a refusal leaves it as it was
   pub refused-keeps : (number place : ℕ) → shared m k (length out) .answer ≡ Refused number place → outputAfter m k out ≡ out
