@@ -56,3 +56,10 @@ pub record InRange (m : Mesh) : Type 0 where
   pub links : (i : ℕ) → LinkInRange (link m i)
   pub numbers : length (m .ducts) ≡ 256
   pub ducts : (i : ℕ) → duct m i < 65536
+
+-- the same nodes, and links with the same ends: lengths, fibre pairs and ducts may differ
+pub record SameEnds (m m′ : Mesh) : Type 0 where
+  pub nodes : m .nodes ≡ m′ .nodes
+  pub count : m .count ≡ m′ .count
+  pub low : (i : ℕ) → i < m .count → link m i .low ≡ link m′ i .low
+  pub high : (i : ℕ) → i < m .count → link m i .high ≡ link m′ i .high

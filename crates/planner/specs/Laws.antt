@@ -3,3 +3,4 @@ pub mod Tables
 pub mod Directing
 pub mod Outcome
 pub mod Meaning
+pub mod ByEnds
