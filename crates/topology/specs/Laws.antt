@@ -1,2 +1,3 @@
 pub mod Backup
 pub mod Arrays
+pub mod ByEnds
