@@ -30,10 +30,10 @@ use Rattle.history.specs.Demand.{startedOn}
 abbrev pub ends : ℕ → ℕ → Link
 ends low high = record { low = low; high = high; length = 0; pair = 0 }
 
--- the book reads as a mesh of n nodes with these links
+-- the book reads as a mesh of n nodes with these links, none of which has a duct
 abbrev pub reads : ℕ → List Link → Decoded
 reads n ls = record {
-  mesh = record { nodes = n; count = length ls; links = ls ++ replicate (256 - length ls) zeroLink };
+  mesh = record { nodes = n; count = length ls; links = ls ++ replicate (256 - length ls) zeroLink; ducts = replicate 256 0 };
   answer = Accepted;
 }
 

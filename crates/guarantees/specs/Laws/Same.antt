@@ -50,14 +50,27 @@ same-all t f (a ∷ r) (b ∷ bs) e =
     let (first, rest) = and-eq-true-iff (t a b) _ .0 e in
     λ j. f a b first j ∷ same-all t f r bs rest j
 
+abbrev pub sameNumbers : List ℕ → List ℕ → Bool
+sameNumbers = sameAll eqb
+
+pub same-numbers : (r bs : List ℕ) → sameNumbers r bs ≡ true → r ≡ bs
+same-numbers = same-all eqb eqb-true
+
 abbrev pub sameMesh : Mesh → Mesh → Bool
-sameMesh a b = eqb (a .nodes) (b .nodes) && (eqb (a .count) (b .count) && sameAll sameLink (a .links) (b .links))
+sameMesh a b =
+    eqb (a .nodes) (b .nodes) && (eqb (a .count) (b .count) && (sameAll sameLink (a .links) (b .links) && sameNumbers (a .ducts) (b .ducts)))
 
 same-mesh : (a b : Mesh) → sameMesh a b ≡ true → a ≡ b
 same-mesh a b e =
     let (nodes, e1) = and-eq-true-iff (eqb (a .nodes) (b .nodes)) _ .0 e in
-    let (count, links) = and-eq-true-iff (eqb (a .count) (b .count)) _ .0 e1 in
-    λ j. record { nodes = eqb-true (a .nodes) (b .nodes) nodes j; count = eqb-true (a .count) (b .count) count j; links = same-all sameLink same-link (a .links) (b .links) links j }
+    let (count, e2) = and-eq-true-iff (eqb (a .count) (b .count)) _ .0 e1 in
+    let (links, ducts) = and-eq-true-iff (sameAll sameLink (a .links) (b .links)) _ .0 e2 in
+    λ j. record {
+      nodes = eqb-true (a .nodes) (b .nodes) nodes j;
+      count = eqb-true (a .count) (b .count) count j;
+      links = same-all sameLink same-link (a .links) (b .links) links j;
+      ducts = same-numbers (a .ducts) (b .ducts) ducts j;
+    }
 
 abbrev pub sameAnswer : Answer → Answer → Bool
 sameAnswer Accepted Accepted = true
@@ -80,12 +93,6 @@ pub same-decoded : (a b : Decoded) → sameDecoded a b ≡ true → a ≡ b
 same-decoded a b e =
     let (mesh, answer) = and-eq-true-iff (sameMesh (a .mesh) (b .mesh)) _ .0 e in
     λ j. record { mesh = same-mesh (a .mesh) (b .mesh) mesh j; answer = same-answer (a .answer) (b .answer) answer j }
-
-abbrev pub sameNumbers : List ℕ → List ℕ → Bool
-sameNumbers = sameAll eqb
-
-pub same-numbers : (r bs : List ℕ) → sameNumbers r bs ≡ true → r ≡ bs
-same-numbers = same-all eqb eqb-true
 
 abbrev pub samePlanned : Planned → Planned → Bool
 samePlanned a b = sameNumbers (a .plan .directions) (b .plan .directions) && sameAnswer (a .answer) (b .answer)
