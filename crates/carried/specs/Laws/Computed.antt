@@ -1,12 +1,13 @@
 -- P7 carried over, computed. Serves `carried-bench` of Main. Assumes nothing.
 use mathlib.Core.Path.{refl}
+use Rattle.scan.specs.All.{all}
 use Rattle.scan.specs.Lowest.{lowest, lowestFrom, any, every}
 use Rattle.scan.specs.Sweep.{sweep, sweepFrom}
 use Rattle.scan.specs.Total.{total, count}
 use Rattle.graph.specs.Reach.{markWay, markLink, markLinks, rounds, reached, reaches}
 use Rattle.graph.specs.Plan.{connects, unreached, parts, assignments, firstThat, plan}
 use Rattle.metres.specs.Length.{lengthOf, routeLength}
-use Rattle.mesh.specs.Mesh.{endsAnswer, linksAnswer, allZero, meshAnswer}
+use Rattle.mesh.specs.Mesh.{endsAnswer, linksAnswer, meshAnswer}
 use Rattle.mesh.specs.Parts.{entriesAnswer, partsAnswer}
 use Rattle.planner.specs.Plan.{planAnswer, planned}
 use Rattle.flood.specs.Machine as machine
@@ -29,8 +30,8 @@ use Rattle.history.specs.Log.{logged}
 use Rattle.carried.specs.Bench.{Holds}
 
 pub computed : Holds
-unfolding lowest lowestFrom any every sweep sweepFrom total count markWay markLink markLinks rounds reached reaches connects unreached parts assignments firstThat plan
-    lengthOf routeLength endsAnswer linksAnswer allZero meshAnswer entriesAnswer partsAnswer planAnswer planned
+unfolding all lowest lowestFrom any every sweep sweepFrom total count markWay markLink markLinks rounds reached reaches connects unreached parts assignments firstThat plan
+    lengthOf routeLength endsAnswer linksAnswer meshAnswer entriesAnswer partsAnswer planAnswer planned
     fresh underWay live offer feeds first some leaves opens arrive retreat withdraw activity held machine.atRest machine.accepts machine.begin machine.step
     machine.play machine.accepted machine.order machine.run carries routeFrom
     linksOn busy atRest accepts next begin step play accepted order run isOver overflows isStray strays
