@@ -1,5 +1,6 @@
 -- What a carry-over gives (02, request 3): a session of now for one from before wavelength 2. Definitions only.
 use mathlib.Core.List.{map}
+use lib.ListN.{replicate}
 use Rattle.mesh.specs.declared.Link.{Link}
 use Rattle.mesh.specs.declared.Mesh.{Mesh}
 use Rattle.mesh.specs.declared.Plan.{Plan}
@@ -23,8 +24,9 @@ use Rattle.legacy.specs.Record.{recordAnswer}
 abbrev pub linkOf : OldLink → Link
 linkOf l = record { low = l .low; high = l .high; length = l .length; pair = l .pair }
 
+-- no link has a duct
 abbrev pub meshOf : OldMesh → Mesh
-meshOf m = record { nodes = m .nodes; count = m .count; links = map linkOf (m .links) }
+meshOf m = record { nodes = m .nodes; count = m .count; links = map linkOf (m .links); ducts = replicate 256 0 }
 
 abbrev pub planOf : OldPlan → Plan
 planOf p = record { directions = p .directions }

@@ -1,7 +1,7 @@
 -- What 02, request 3, says of a carry-over, field by field. Definitions only.
 use Prim.Native.Nat.{ℕ}
 use mathlib.Core.Path.{_≡_}
-use Rattle.mesh.specs.WellFormed.{link}
+use Rattle.mesh.specs.WellFormed.{link, duct}
 use Rattle.formed.specs.declared.Cut.the-variants as cuts
 use Rattle.recovery.specs.declared.Session.{Session}
 use Rattle.recovery.specs.Calls.{freshOn, cutOn}
@@ -18,6 +18,8 @@ pub record Keeps (s : OldSession) (t : Session) : Type 0 where
   pub high : (i : ℕ) → link (t .mesh) i .high ≡ old.link (s .mesh) i .high
   pub length : (i : ℕ) → link (t .mesh) i .length ≡ old.link (s .mesh) i .length
   pub pair : (i : ℕ) → link (t .mesh) i .pair ≡ old.link (s .mesh) i .pair
+  -- no duct, as in every session carried over (02, request 4)
+  pub duct : (i : ℕ) → duct (t .mesh) i ≡ 0
   -- the plan
   pub directions : t .plan .directions ≡ s .plan .directions
   -- on wavelength 1 the states and the reached nodes

@@ -1,9 +1,10 @@
--- `upgrade::mesh_of` meets its contract. The loop keeps that the links below i are carried over; the old mesh has 256 entries by its type.
+-- `upgrade::mesh_of` meets its contract. The loop keeps that the links below i are carried over, and that none has a duct; the old mesh has 256 entries by
+-- its type.
 use Prim.Native.Nat.{ℕ, _-_, _<_, _≤_}
 use mathlib.Core.Path.{_≡_, sym, ap, _∙_}
 use mathlib.Core.List.{map}
 use native.Mathlib.Omega.{arith}
-use lib.ListN.{length, length-map, length-set, List·getD-map}
+use lib.ListN.{length, replicate, length-map, length-set, List·getD-map}
 use lib.Seq.{ext-getD, getD-set-same, getD-set-other}
 use borrow.Author.Count.{below-more}
 use borrow.Author.Needs.{needs}
@@ -18,7 +19,7 @@ use Rattle.upgrade.proofs.mesh_of.Tie as tie
 
 abbrev Inv-loop : tie.InvT-loop
 Inv-loop m mesh₀ i₀ mesh i =
-    (i ≤ 256) × (length (mesh .links) ≡ 256) × ((j : ℕ) → j < i → link mesh j ≡ linkOf (old.link m j))
+    (i ≤ 256) × (length (mesh .links) ≡ 256) × (mesh .ducts ≡ replicate 256 0) × ((j : ℕ) → j < i → link mesh j ≡ linkOf (old.link m j))
 
 abbrev μ-loop : tie.MeasureT-loop
 μ-loop m mesh₀ i₀ mesh i = 256 - i
@@ -27,7 +28,9 @@ zero-mesh-requires : tie.Need-zero-mesh-requires Inv-loop μ-loop
 zero-mesh-requires c κs = search needs
 
 loop-holds : tie.Need-loop-holds Inv-loop μ-loop
-loop-holds c = (omega arith, ap (λ (m : Mesh). length (m .links)) (c .zero-mesh .ensures), λ j h. absurd (omega arith))
+loop-holds c =
+    let zero = c .zero-mesh .ensures in
+    (omega arith, ap (λ (m : Mesh). length (m .links)) zero, ap (λ (m : Mesh). m .ducts) zero, λ j h. absurd (omega arith))
 
 mul-l : tie.Need-mul-l Inv-loop μ-loop
 mul-l c = search needs
@@ -57,8 +60,9 @@ loop-again c =
     let l = c .link-of .result in (
       omega arith,
       length-set ls (lo .i) l ∙ lo .inv .1,
+      lo .inv .2,
       below-more _ (lo .i)
-          (λ j h. getD-set-other ls (lo .i) j l zeroLink (λ e. omega arith) ∙ lo .inv .2 j h)
+          (λ j h. getD-set-other ls (lo .i) j l zeroLink (λ e. omega arith) ∙ lo .inv .3 j h)
           (getD-set-same ls (lo .i) l zeroLink (omega (arith, lo .inv .1)) ∙ c .link-of .ensures),
     )
 
@@ -71,8 +75,8 @@ returns c =
     let carried =
     ext-getD zeroLink (lo .mesh .links) (map linkOf (m .links))
     (lo .inv .1 ∙ sym (length-map (m .links) linkOf ∙ sized))
-    (λ j h. lo .inv .2 j (omega (arith, lo .inv .1)) ∙ sym (List·getD-map linkOf (m .links) j old.zeroLink)) in
-    λ i. record { nodes = m .nodes; count = m .count; links = carried i }
+    (λ j h. lo .inv .3 j (omega (arith, lo .inv .1)) ∙ sym (List·getD-map linkOf (m .links) j old.zeroLink)) in
+    λ i. record { nodes = m .nodes; count = m .count; links = carried i; ducts = lo .inv .2 i }
 
 pub mesh-of-spec : {M : Type 1} → statement M
 mesh-of-spec =

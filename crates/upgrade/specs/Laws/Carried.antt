@@ -49,7 +49,7 @@ use Rattle.legacy.specs.WellFormed.{InRange, Formed}
 use Rattle.legacy.specs.Calls as oldCalls
 use Rattle.upgrade.specs.Carried.{meshOf, planOf, cutOf, floodOf, secondOf, kept, carried, withFirst, cutAgain}
 use Rattle.upgrade.specs.Meaning.{Keeps}
-use Rattle.upgrade.specs.Laws.Checks.{link-carried, mesh-accepts}
+use Rattle.upgrade.specs.Laws.Checks.{link-carried, no-duct, mesh-accepts}
 use Rattle.upgrade.specs.Laws.Forming.{directionsFault, statesFault, cutFault, reachedFault, record-passed, record-formed}
 
 -- ---- by the answer
@@ -83,6 +83,7 @@ module _ (s : OldSession) where
     high = λ i. ap (λ (l : Link). l .high) (link-carried (s .mesh) i);
     length = λ i. ap (λ (l : Link). l .length) (link-carried (s .mesh) i);
     pair = λ i. ap (λ (l : Link). l .pair) (link-carried (s .mesh) i);
+    duct = no-duct (s .mesh);
     directions = refl;
     states = refl;
     reached = refl;

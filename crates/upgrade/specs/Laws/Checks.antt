@@ -1,29 +1,32 @@
 -- The mesh checks of a mesh from before a change are those of the mesh that it becomes, with its own test of the entries past the last link after them. All
--- that is asked of a carried-over link is that it keeps both ends, and that the zero link stays the zero link. Assumes the ranges of the old mesh's fields,
--- which its types ensure.
+-- that is asked of a carried-over link is that it keeps both ends, and that the zero link stays the zero link; none has a duct. Assumes the ranges of the old
+-- mesh's fields, which its types ensure.
 use Prim.Native.Nat.{ℕ, _+_, _≤_}
 use mathlib.Core.Path.{_≡_, refl, sym, ap, _∙_}
 use mathlib.Core.Logic.{_≢_, ⊎-elim}
-use mathlib.Core.Bool.{Bool, true, false, _||_}
+use mathlib.Core.Bool.{Bool, true, false, _||_, and-eq-true-iff}
 use mathlib.Core.List.{List}
 use native.Mathlib.Omega.{arith}
 use native.Mathlib.Decide.{decLt}
-use lib.Dec.{ltb}
-use lib.ListN.{length, length-map, List·getD-map, List·getD-eq-default}
+use lib.Dec.{ltb, eqb}
+use lib.ListN.{length, getD, drop, length-map, List·getD-map, List·getD-eq-default}
 use lib.Seq.{getD-drop}
 use borrow.Author.Tests.{ltb-false, lt-ltb, le-ltb}
 use Rattle.scan.specs.Test.{clash, known, fails, or-false, Says, eq-says, and-says}
+use Rattle.scan.specs.All.{all, all-fails}
+use Rattle.scan.specs.Entry.{replicate-at}
 use Rattle.scan.specs.Lowest.{every-says, every-fails}
 use Rattle.scan.specs.Fill.{tableOf}
 use Rattle.mesh.specs.declared.Answer.{Answer}
 use Rattle.mesh.specs.declared.Answer.the-variants.{Accepted, Refused}
+use Rattle.mesh.specs.Mesh as current
 use Rattle.mesh.specs.Mesh.{must, andThen, nodesFit, countFits, meshAnswer}
-use Rattle.mesh.specs.WellFormed.{link}
+use Rattle.mesh.specs.WellFormed.{link, duct}
 use Rattle.mesh.specs.Parts as parts
 use Rattle.mesh.specs.Parts.{endsIn, entriesAnswer, partsAnswer}
 use Rattle.mesh.specs.Laws.Answer.{andThen-accepted}
 use Rattle.mesh.specs.Laws.Parts.{bytes-answer}
-use Rattle.mesh.specs.Laws.Zeros.{one-not-zero}
+use Rattle.mesh.specs.Laws.Zeros as zeros
 use Rattle.legacy.specs.declared.OldLink.{OldLink}
 use Rattle.legacy.specs.declared.OldMesh.{OldMesh}
 use Rattle.legacy.specs.Record as old
@@ -40,6 +43,10 @@ link-carried m i = List·getD-map linkOf (m .links) i zeroLink
 -- so the ends stay the same
 ends-carried : (m : OldMesh) → endsIn (meshOf m) ≡ old.endsIn m
 ends-carried m = λ j. tableOf (λ i. parts.endsOf (link-carried m i j)) (m .count)
+
+-- no entry has a duct
+pub no-duct : (m : OldMesh) (i : ℕ) → duct (meshOf m) i ≡ 0
+no-duct m i = replicate-at 256 0 i
 
 -- ---- the entries past the last link
 
@@ -60,6 +67,13 @@ rest-fails m e =
     let (l, z) = or-false (ltb i (m .count)) (isZero (old.link m i)) f in
     (i, ltb-false i (m .count) l, fails (zero-says (old.link m i)) z)
 
+-- where each entry from k on passes a test, all of these do
+rest-passes : {A : Type 0} (p : A → Bool) (a : A) (l : List A) (k : ℕ) → ((i : ℕ) → k ≤ i → p (getD l i a) ≡ true) → all p (drop k l) ≡ true
+rest-passes p a l k h =
+    ⊎-elim (λ e. e)
+    (λ e. let (i, f) = all-fails p a (drop k l) e in clash (h (k + i) (omega arith)) (rw getD-drop at f))
+    (known (all p (drop k l)))
+
 module _ (m : OldMesh) (sized : length (m .links) ≡ 256) where
   -- all are zero, and what stands past the end of the list is
   pub rest-says : Says (restZero m) ((i : ℕ) → m .count ≤ i → old.link m i ≡ zeroLink)
@@ -78,9 +92,11 @@ module _ (m : OldMesh) (sized : length (m .links) ≡ 256) where
   -- where they are zero, the entries carried over are
   rest-carried : restZero m ≡ true → parts.restZero (meshOf m) ≡ true
   rest-carried t =
-      ⊎-elim (λ e. e)
-      (λ e. let (i, n) = one-not-zero _ e in absurd (n (rw getD-drop (link-carried m (m .count + i) ∙ ap linkOf (rest-says .0 t (m .count + i) (omega arith))))))
-      (known (parts.restZero (meshOf m)))
+      and-eq-true-iff _ _ .1 (
+        rest-passes current.isZero current.zeroLink (meshOf m .links) (m .count)
+            (λ i h. zeros.zero-says (link (meshOf m) i) .1 (link-carried m i ∙ ap linkOf (rest-says .0 t i h))),
+        rest-passes (λ d. eqb d 0) 0 (meshOf m .ducts) (m .count) (λ i h. rw (no-duct m i)),
+      )
 
 -- ---- the checks
 

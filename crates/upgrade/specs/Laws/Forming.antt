@@ -29,7 +29,7 @@ use Rattle.legacy.specs.Record.{restZero, misplaced, illFormed}
 use Rattle.legacy.specs.WellFormed.{InRange, WellFormed, Formed, previous, MeshRefusal, nodes-unfit, count-unfit, first-fault, entry-not-zero}
 use Rattle.legacy.specs.WellFormed.{Refusal, of-mesh, ill-formed}
 use Rattle.upgrade.specs.Carried.{linkOf, meshOf, cutOf}
-use Rattle.upgrade.specs.Laws.Checks.{link-carried, rest-says, rest-fails, mesh-sized, mesh-shares}
+use Rattle.upgrade.specs.Laws.Checks.{link-carried, no-duct, rest-says, rest-fails, mesh-sized, mesh-shares}
 
 -- an answer and one more test after it: a refusal is the answer's own, or that of the test where the answer accepts
 last-refused : (R : ℕ → ℕ → Type 0) (a : Answer) (t : Bool) (n p : ℕ) {number place : ℕ} → andThen a (must t n p Accepted) ≡ Refused number place
@@ -58,6 +58,7 @@ module _ (m : OldMesh) where
       first-fault h (rw (previous-carried place, link-carried m place) at f) (λ i n b fault.
       no-fault (m .nodes) (refusals.previous (meshOf m) i) (link (meshOf m) i) n (g i b) (rw (previous-carried i, link-carried m i) fault))
   refusal-carried number place (refusals.entry-not-zero i h f) = entry-not-zero i h (λ e. f (link-carried m i ∙ ap linkOf e))
+  refusal-carried number place (refusals.duct-not-zero i h f) = absurd (f (no-duct m i))
 
   -- a well-formed old mesh becomes a well-formed mesh of now
   formed-now : WellFormed m → current.WellFormed (meshOf m)
@@ -68,6 +69,7 @@ module _ (m : OldMesh) where
     joins = λ i h. rw (link-carried m i) (record { apart = w .apart i h; inside = w .inside i h });
     rises = λ i h. rw (link-carried m i, link-carried m (i + 1)) (w .rises i h);
     zeros = λ i h. link-carried m i ∙ ap linkOf (w .zeros i h);
+    ductless = λ i h. no-duct m i;
   }
 
   module _ (ranges : InRange m) where
