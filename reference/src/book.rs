@@ -11,7 +11,7 @@ use crate::refusal::{refuse_if, Answer, Reason, Refusal};
 const VERSION: u8 = 1;
 
 /// A book is at most this long.
-pub const MOST_BOOK_BYTES: usize = 2_308;
+pub const MOST_BOOK_BYTES: usize = 2_820;
 
 /// Reads a book. A refused read gives the all-zero mesh.
 pub fn decode(book: &[u8]) -> (Mesh, Answer) {
@@ -108,6 +108,7 @@ fn read_link(reader: &mut Reader, previous: Option<&Link>, nodes: u8) -> Result<
         high: high as u8,
         length: record.length.unwrap_or(0),
         pair: record.pair.unwrap_or(0),
+        duct: record.duct.unwrap_or(0),
     })
 }
 

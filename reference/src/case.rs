@@ -1,6 +1,7 @@
 //! The cases of a corpus and their bytes.
 
-use crate::mesh::{Link, Mesh};
+use crate::entries::{read_mesh, write_mesh};
+use crate::mesh::Mesh;
 use crate::reader::Reader;
 use crate::script::{read_script, write_script, Script};
 use crate::upgrade::{read_upgrade, write_upgrade, Upgrade};
@@ -11,9 +12,13 @@ const PLANNING: u8 = b'P';
 const SCRIPT: u8 = b'S';
 const LISTING: u8 = b'L';
 const UPGRADE: u8 = b'U';
+const DUCTS: u8 = b'D';
 
 /// The greatest room of a case and the greatest length of its book.
-pub const MOST_BYTES: usize = 2_400;
+pub const MOST_BYTES: usize = 2_900;
+
+/// The greatest number of entries of a duct query's output.
+pub const MOST_ENTRIES: usize = 300;
 
 #[derive(Clone, Debug, PartialEq, Eq)]
 pub enum Case {
@@ -21,8 +26,8 @@ pub enum Case {
     Book { room: u16, link: u16, book: Vec<u8> },
     /// A mesh record and the output's size.
     Mesh { room: u16, mesh: Box<Mesh> },
-    /// A mesh to plan: at most 256 links without lengths and fibre pairs, and
-    /// zeros past them.
+    /// A mesh to plan: at most 256 links without lengths, fibre pairs and ducts,
+    /// and zeros past them.
     Planning { mesh: Box<Mesh> },
     /// Calls on a session.
     Script(Script),
@@ -30,6 +35,13 @@ pub enum Case {
     Listing { book: Vec<u8> },
     /// An old session carried over, and calls on what it becomes.
     Upgrade(Box<Upgrade>),
+    /// A duct query: the number of the output's entries, the link and the mesh
+    /// record.
+    Ducts {
+        room: u16,
+        link: u16,
+        mesh: Box<Mesh>,
+    },
 }
 
 /// The bytes of a corpus, one case after the other.
@@ -38,7 +50,11 @@ pub fn write_cases(cases: &[Case]) -> Vec<u8> {
     for case in cases {
         match case {
             Case::Book { room, link, book } => write_book(*room, *link, book, &mut output),
-            Case::Mesh { room, mesh } => write_mesh(*room, mesh, &mut output),
+            Case::Mesh { room, mesh } => {
+                output.push(MESH);
+                output.extend(room.to_le_bytes());
+                write_mesh(mesh, &mut output);
+            }
             Case::Planning { mesh } => write_planning(mesh, &mut output),
             Case::Script(script) => {
                 output.push(SCRIPT);
@@ -51,6 +67,12 @@ pub fn write_cases(cases: &[Case]) -> Vec<u8> {
             Case::Upgrade(upgrade) => {
                 output.push(UPGRADE);
                 write_upgrade(upgrade, &mut output);
+            }
+            Case::Ducts { room, link, mesh } => {
+                output.push(DUCTS);
+                output.extend(room.to_le_bytes());
+                output.extend(link.to_le_bytes());
+                write_mesh(mesh, &mut output);
             }
         }
     }
@@ -68,23 +90,6 @@ fn write_book(room: u16, link: u16, book: &[u8], output: &mut Vec<u8>) {
 fn write_bytes(book: &[u8], output: &mut Vec<u8>) {
     output.extend((book.len() as u16).to_le_bytes());
     output.extend(book);
-}
-
-fn write_mesh(room: u16, mesh: &Mesh, output: &mut Vec<u8>) {
-    let entries: Vec<(usize, &Link)> = (0..)
-        .zip(&mesh.links)
-        .filter(|(_, link)| **link != Link::ZERO)
-        .collect();
-    output.push(MESH);
-    output.extend(room.to_le_bytes());
-    output.push(mesh.nodes);
-    output.extend(mesh.count.to_le_bytes());
-    output.extend((entries.len() as u16).to_le_bytes());
-    for (index, link) in entries {
-        output.extend([index as u8, link.low, link.high]);
-        output.extend(link.length.to_le_bytes());
-        output.extend(link.pair.to_le_bytes());
-    }
 }
 
 fn write_planning(mesh: &Mesh, output: &mut Vec<u8>) {
@@ -110,11 +115,12 @@ pub fn read_cases(corpus: &[u8]) -> Result<Vec<Case>, String> {
 fn read_case(reader: &mut Reader) -> Option<Case> {
     match reader.one()? {
         BOOK => read_book(reader),
-        MESH => read_mesh(reader),
+        MESH => read_record(reader),
         PLANNING => read_planning(reader),
         SCRIPT => read_script(reader).map(Case::Script),
         LISTING => read_bytes(reader).map(|book| Case::Listing { book }),
         UPGRADE => read_upgrade(reader).map(|upgrade| Case::Upgrade(Box::new(upgrade))),
+        DUCTS => read_ducts(reader),
         _ => None,
     }
 }
@@ -131,22 +137,19 @@ fn read_bytes(reader: &mut Reader) -> Option<Vec<u8>> {
     Some(reader.take(length.into())?.to_vec())
 }
 
-fn read_mesh(reader: &mut Reader) -> Option<Case> {
+fn read_record(reader: &mut Reader) -> Option<Case> {
     let room = reader.two()?;
-    let mut mesh = Box::new(Mesh::ZERO);
-    mesh.nodes = reader.one()?;
-    mesh.count = reader.two()?;
-    let entries = reader.two()?;
-    for _ in 0..entries {
-        let index = reader.one()?;
-        mesh.links[usize::from(index)] = Link {
-            low: reader.one()?,
-            high: reader.one()?,
-            length: reader.two()?,
-            pair: reader.four()?,
-        };
-    }
+    let mesh = read_mesh(reader)?;
     Some(Case::Mesh { room, mesh })
+}
+
+/// None if the output is too large.
+fn read_ducts(reader: &mut Reader) -> Option<Case> {
+    let room = reader.two()?;
+    let link = reader.two()?;
+    let mesh = read_mesh(reader)?;
+    let fits = usize::from(room) <= MOST_ENTRIES;
+    fits.then_some(Case::Ducts { room, link, mesh })
 }
 
 fn read_planning(reader: &mut Reader) -> Option<Case> {

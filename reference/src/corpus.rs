@@ -3,6 +3,7 @@
 pub mod accepted;
 pub mod changed;
 pub mod draft;
+pub mod ducts;
 pub mod faults;
 pub mod graphs;
 pub mod headers;
@@ -29,20 +30,31 @@ use crate::case::Case;
 use crate::random::Random;
 
 /// All cases of the corpus: books first, then mesh records, then plannings,
-/// then scripts, then books to list, then old sessions.
+/// then scripts, then books to list, then old sessions, then duct queries. Those
+/// about ducts are drawn aside.
 pub fn make(seed: u64) -> Vec<Case> {
     let mut random = Random::new(seed);
+    let mut aside = random.aside();
     let books = all_books(&mut random);
     let mut cases: Vec<Case> = books
         .into_iter()
         .map(|book| questions::ask(book, &mut random))
         .collect();
     cases.extend(questions::every_question(&mut random));
+    let books = ducts::books::books(&mut aside);
+    cases.extend(
+        books
+            .into_iter()
+            .map(|book| questions::ask(book, &mut aside)),
+    );
     cases.extend(mesh_records::cases(&mut random));
+    cases.extend(ducts::records::cases(&mut aside));
     cases.extend(planning::cases(&mut random));
     cases.extend(scripts::cases(&mut random));
+    cases.extend(ducts::scripts::cases(&mut aside));
     cases.extend(listings::cases(&mut random));
     cases.extend(upgrades::cases(seed));
+    cases.extend(ducts::queries::cases(&mut aside));
     cases
 }
 

@@ -21,6 +21,7 @@ fn bytes(mesh: &Mesh, plan: &Plan) -> Vec<u8> {
         bytes.extend([link.low, link.high]);
         bytes.extend(link.length.to_le_bytes());
         bytes.extend(link.pair.to_le_bytes());
+        bytes.extend(link.duct.to_le_bytes());
     }
     bytes.extend(plan.directions);
     bytes
@@ -37,9 +38,9 @@ mod tests {
     }
 
     #[test]
-    fn takes_in_2307_bytes() {
-        assert_eq!(bytes(&Mesh::ZERO, &Plan::ZERO).len(), 2_307);
-        assert_eq!(digest(&Mesh::ZERO, &Plan::ZERO), of_zeros(2_307));
+    fn takes_in_2819_bytes() {
+        assert_eq!(bytes(&Mesh::ZERO, &Plan::ZERO).len(), 2_819);
+        assert_eq!(digest(&Mesh::ZERO, &Plan::ZERO), of_zeros(2_819));
     }
 
     #[test]
@@ -56,6 +57,9 @@ mod tests {
             |mesh: &mut Mesh| mesh.links[100].length = 256,
             |mesh: &mut Mesh| mesh.links[255].pair = 1,
             |mesh: &mut Mesh| mesh.links[255].pair = 1 << 24,
+            |mesh: &mut Mesh| mesh.links[0].duct = 1,
+            |mesh: &mut Mesh| mesh.links[255].duct = 1,
+            |mesh: &mut Mesh| mesh.links[255].duct = 256,
         ] {
             let mut mesh = Mesh::ZERO;
             change(&mut mesh);

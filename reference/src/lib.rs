@@ -7,6 +7,8 @@ pub mod book;
 pub mod case;
 pub mod corpus;
 pub mod digest;
+pub mod ducts;
+pub mod entries;
 pub mod listing;
 pub mod mesh;
 pub mod meshplan;

@@ -1,5 +1,6 @@
 //! The expected listing of a corpus.
 
+pub mod ducts;
 #[cfg(test)]
 mod expected;
 pub mod scripts;
@@ -30,6 +31,7 @@ pub fn listing(cases: &[Case]) -> Result<String, String> {
             Case::Script(script) => lines.script(number, script),
             Case::Listing { book } => lines.listed(number, book),
             Case::Upgrade(upgrade) => lines.upgrade(number, upgrade),
+            Case::Ducts { room, link, mesh } => lines.ducts(number, *room, *link, mesh),
         }
     }
     Ok(lines.text)
@@ -94,17 +96,24 @@ impl Lines {
     fn mesh(&mut self, mesh: &Mesh) {
         self.line(&format!("mesh {} {}", mesh.nodes, mesh.count));
         for (number, link) in mesh.counted().iter().enumerate() {
-            let Link {
-                low,
-                high,
-                length,
-                pair,
-            } = link;
-            self.line(&format!("link {number} {low} {high} {length} {pair}"));
+            self.link(number, link);
         }
         let past = mesh.past_count().iter();
         let rest = past.filter(|entry| **entry != Link::ZERO).count();
         self.line(&format!("rest {rest}"));
+    }
+
+    pub fn link(&mut self, number: usize, link: &Link) {
+        let Link {
+            low,
+            high,
+            length,
+            pair,
+            duct,
+        } = link;
+        self.line(&format!(
+            "link {number} {low} {high} {length} {pair} {duct}"
+        ));
     }
 
     fn write(&mut self, mesh: &Mesh, room: u16) {
@@ -153,12 +162,13 @@ mod tests {
     #[test]
     fn lists_an_accepted_book() {
         let case = Case::Book {
-            room: 7,
+            room: 9,
             link: 0,
-            book: vec![1, 2, 1, 0, 4, 0, 1],
+            book: vec![1, 2, 1, 0, 20, 0, 1, 2, 1],
         };
-        let expected = "book 0 7\nread accepted\nmesh 2 1\nlink 0 0 1 256 0\nrest 0\n\
-            write accepted\nlength 7\nout 01020100040001\nrecord accepted\npart 040001\n";
+        let expected = "book 0 9\nread accepted\nmesh 2 1\nlink 0 0 1 256 0 258\nrest 0\n\
+            write accepted\nlength 9\nout 010201001400010201\nrecord accepted\n\
+            part 1400010201\n";
         assert_eq!(listing(&[case]).unwrap(), expected);
     }
 

@@ -3,7 +3,10 @@
 //! listing; `reference script CALL..` reads a book and writes the input of the
 //! program `calls` for this book and these calls; `reference calls` reads such
 //! an input and writes what `calls` prints; `reference show` reads a book and
-//! writes what the program `show` prints; `reference meshplan` reads a book and
+//! writes what the program `show` prints; `reference digging link LINK` and
+//! `reference digging duct DUCT` read a book and write the input of the program
+//! `dig` for this book and this link or duct; `reference dig` reads such an
+//! input and writes what `dig` prints; `reference meshplan` reads a book and
 //! lists its mesh, its plan and every cut; `reference book` reads a text table
 //! and writes its book;
 //! `reference table` reads a book and writes its text table;
@@ -18,6 +21,7 @@ use std::process::ExitCode;
 
 use reference::book::{bytes_of, decode};
 use reference::case::{read_cases, write_cases, MOST_BYTES};
+use reference::programs::{dig_of, Dig};
 use reference::refusal::in_words;
 use reference::script::{calls_of, Call};
 use reference::timing::program::Program;
@@ -35,10 +39,15 @@ fn main() -> ExitCode {
         ["expect"] => finish(write_listing()),
         ["script", ref words @ ..] => match calls_of(words) {
             Ok(calls) => finish(write_script(&calls)),
-            Err(why) => no_calls(&why),
+            Err(why) => wrong_words(&why),
         },
         ["calls"] => finish(write_answers()),
         ["show"] => finish(write_shown()),
+        ["digging", ref words @ ..] => match dig_of(words) {
+            Ok(dig) => finish(write_digging(dig)),
+            Err(why) => wrong_words(&why),
+        },
+        ["dig"] => finish(write_dug()),
         ["meshplan"] => finish(write_meshplan()),
         ["book"] => exit(write_book()),
         ["table"] => exit(write_text_table()),
@@ -55,14 +64,15 @@ fn main() -> ExitCode {
 fn usage() -> ExitCode {
     eprintln!(
         "usage: reference corpus SEED BOOK.. | reference expect | reference script CALL.. | \
-         reference calls | reference show | reference meshplan | reference book | \
+         reference calls | reference show | reference digging link LINK | \
+         reference digging duct DUCT | reference dig | reference meshplan | reference book | \
          reference table | reference bench | \
          reference time BENCH MESHPLAN [EARLIER-BENCH EARLIER-MESHPLAN]"
     );
     ExitCode::from(2)
 }
 
-fn no_calls(why: &str) -> ExitCode {
+fn wrong_words(why: &str) -> ExitCode {
     eprintln!("{why}");
     ExitCode::from(2)
 }
@@ -98,6 +108,17 @@ fn write_answers() -> io::Result<()> {
 
 fn write_shown() -> io::Result<()> {
     let lines = programs::show(&read_input()?);
+    io::stdout().write_all(lines.as_bytes())
+}
+
+fn write_digging(dig: Dig) -> io::Result<()> {
+    let book = read_input()?;
+    io::stdout().write_all(&programs::input_of_dig(&book, dig))
+}
+
+fn write_dug() -> io::Result<()> {
+    let lines = programs::dig(&read_input()?);
+    let lines = lines.ok_or_else(|| io::Error::other("ill-formed input"))?;
     io::stdout().write_all(lines.as_bytes())
 }
 

@@ -16,6 +16,8 @@ pub struct Link {
     pub high: u8,
     pub length: u16,
     pub pair: u32,
+    /// 0 for none.
+    pub duct: u16,
 }
 
 impl Link {
@@ -24,6 +26,7 @@ impl Link {
         high: 0,
         length: 0,
         pair: 0,
+        duct: 0,
     };
 
     pub fn ends(&self) -> Ends {
@@ -35,10 +38,12 @@ impl Link {
         (self.length > 0).then_some(self.length.into())
     }
 
-    /// All fields in one number, as they stand in memory.
+    /// The fields laid over each other, 0 only where all of them are: the duct
+    /// over the others, which stand in one number as they do in memory.
     fn bits(&self) -> u64 {
         let ends = u64::from(self.low) | u64::from(self.high) << 8;
-        ends | u64::from(self.length) << 16 | u64::from(self.pair) << 32
+        let others = ends | u64::from(self.length) << 16 | u64::from(self.pair) << 32;
+        others | u64::from(self.duct)
     }
 }
 

@@ -39,7 +39,7 @@ impl OldLink {
         pair: 0,
     };
 
-    /// A link as it was held before wavelength 2.
+    /// A link as it was held before wavelength 2, without a duct.
     pub fn of(link: &Link) -> OldLink {
         OldLink {
             low: link.low,

@@ -1,5 +1,8 @@
 //! A deterministic generator of numbers (splitmix64).
 
+/// Any number that is not 0.
+const ASIDE: u64 = 0x5bd1_e995_97f4_a7c1;
+
 pub struct Random {
     state: u64,
 }
@@ -7,6 +10,12 @@ pub struct Random {
 impl Random {
     pub fn new(seed: u64) -> Random {
         Random { state: seed }
+    }
+
+    /// Another generator, which leaves the numbers of this one as they are.
+    pub fn aside(&self) -> Random {
+        let mut next = Random::new(self.state ^ ASIDE);
+        Random::new(next.number())
     }
 
     pub fn number(&mut self) -> u64 {
@@ -58,5 +67,16 @@ mod tests {
         assert_eq!(random.number(), 6_457_827_717_110_365_317);
         assert_eq!(random.number(), 3_203_168_211_198_807_973);
         assert_eq!(random.number(), 9_817_491_932_198_370_423);
+    }
+
+    #[test]
+    fn a_generator_aside_has_other_numbers() {
+        let mut random = Random::new(3);
+        let mut aside = random.aside();
+        assert_ne!(aside.number(), random.number());
+        assert_ne!(random.aside().number(), aside.number());
+        let mut same = Random::new(3);
+        same.number();
+        assert_eq!(random.number(), same.number());
     }
 }

@@ -7,9 +7,10 @@ const LOW: u8 = 1 << 0;
 const HIGH: u8 = 1 << 1;
 const LENGTH: u8 = 1 << 2;
 const PAIR: u8 = 1 << 3;
+const DUCT: u8 = 1 << 4;
 
-/// Bits 4 to 7.
-pub const RESERVED: u8 = 0xf0;
+/// Bits 5 to 7.
+pub const RESERVED: u8 = 0xe0;
 
 /// A record as it stands in a book, whether a reader accepts it or not.
 #[derive(Clone, Copy, Debug, PartialEq, Eq)]
@@ -20,6 +21,7 @@ pub struct Record {
     pub high: Option<u8>,
     pub length: Option<u16>,
     pub pair: Option<u32>,
+    pub duct: Option<u16>,
 }
 
 impl Record {
@@ -33,6 +35,7 @@ impl Record {
             high: Some(link.high).filter(|high| u16::from(*high) != high_absent),
             length: Some(link.length).filter(|length| *length != 0),
             pair: Some(link.pair).filter(|pair| *pair != 0),
+            duct: Some(link.duct).filter(|duct| *duct != 0),
         }
     }
 
@@ -45,6 +48,7 @@ impl Record {
             high: field(bit_map & HIGH, || reader.one())?,
             length: field(bit_map & LENGTH, || reader.two())?,
             pair: field(bit_map & PAIR, || reader.four())?,
+            duct: field(bit_map & DUCT, || reader.two())?,
         })
     }
 
@@ -55,6 +59,7 @@ impl Record {
             | bit(self.high.is_some(), HIGH)
             | bit(self.length.is_some(), LENGTH)
             | bit(self.pair.is_some(), PAIR)
+            | bit(self.duct.is_some(), DUCT)
     }
 
     /// Adds the bit map, then the fields in bit order, low byte first.
@@ -67,6 +72,9 @@ impl Record {
         }
         if let Some(pair) = self.pair {
             output.extend_from_slice(&pair.to_le_bytes());
+        }
+        if let Some(duct) = self.duct {
+            output.extend_from_slice(&duct.to_le_bytes());
         }
     }
 
@@ -84,6 +92,7 @@ impl Record {
             || self.high.map(u16::from) == Some(high_when_absent(low))
             || self.length == Some(0)
             || self.pair == Some(0)
+            || self.duct == Some(0)
     }
 }
 

@@ -1,7 +1,7 @@
 //! The text table of a mesh: the line `nodes N`, then a line for each link with
-//! its low end, high end, length and fibre pair. The pair, or the length and
-//! the pair, can be left out and are then 0. Empty lines and lines that begin
-//! with `#` are comments.
+//! its low end, high end, length, fibre pair and duct. The last one, two or
+//! three of these can be left out and are then 0. Empty lines and lines that
+//! begin with `#` are comments.
 
 use std::fmt::{Display, Formatter, Result as Written};
 use std::mem::size_of;
@@ -37,14 +37,19 @@ pub fn read(table: &str) -> Result<Mesh, Fault> {
     Ok(Mesh::new(nodes, &links))
 }
 
-/// The table of a well-formed mesh, with all four numbers in each link's line.
+/// The table of a well-formed mesh, with the shortest line for each link.
 pub fn text_of(mesh: &Mesh) -> String {
-    let line = |link: &Link| {
-        let (low, high) = link.ends();
-        format!("{low} {high} {} {}\n", link.length, link.pair)
-    };
-    let links: String = mesh.counted().iter().map(line).collect();
+    let links: String = mesh.counted().iter().map(line_of).collect();
     format!("nodes {}\n{links}", mesh.nodes)
+}
+
+/// The ends, and the other numbers up to the last that is not 0.
+fn line_of(link: &Link) -> String {
+    let others = [link.length.into(), link.pair, link.duct.into()];
+    let last = others.iter().rposition(|number| *number != 0);
+    let written = &others[..last.map_or(0, |last| last + 1)];
+    let written: String = written.iter().map(|number| format!(" {number}")).collect();
+    format!("{} {}{written}\n", link.low, link.high)
 }
 
 /// The lines that are not comments, each with its number and its words.
@@ -82,7 +87,7 @@ fn link_after(links: &[Link], words: &[&str], nodes: u8) -> Result<Link, String>
         );
         refused(refusal, &reason)
     })?;
-    let [low, high, length, pair] = fields(words)?;
+    let [low, high, length, pair, duct] = fields(words)?;
     let ends = (number("low end", low)?, number("high end", high)?);
     let previous = links.last().map(Link::ends);
     check_ends(ends, previous, nodes, 0)
@@ -93,20 +98,22 @@ fn link_after(links: &[Link], words: &[&str], nodes: u8) -> Result<Link, String>
         high: ends.1 as u8,
         length: number("length", length)?,
         pair: number("fibre pair", pair)?,
+        duct: number("duct", duct)?,
     })
 }
 
-/// The four fields of a link's line; a field left out is 0.
-fn fields<'a>(words: &[&'a str]) -> Result<[&'a str; 4], String> {
-    match *words {
-        [low, high] => Ok([low, high, "0", "0"]),
-        [low, high, length] => Ok([low, high, length, "0"]),
-        [low, high, length, pair] => Ok([low, high, length, pair]),
-        _ => Err(format!(
-            "a link is `low high length pair` or `low high length` or `low high`, here are {} words",
+/// The five fields of a link's line; a field left out is 0.
+fn fields<'a>(words: &[&'a str]) -> Result<[&'a str; 5], String> {
+    if !(2..=5).contains(&words.len()) {
+        return Err(format!(
+            "a link is `low high length pair duct`, the last one, two or three left out \
+             where they are 0; here are {} words",
             words.len()
-        )),
+        ));
     }
+    let mut fields = ["0"; 5];
+    fields[..words.len()].copy_from_slice(words);
+    Ok(fields)
 }
 
 /// The number, of a type without negative ones, that a word of decimal digits
@@ -143,19 +150,21 @@ mod tests {
     const MEASURED: Mesh = {
         let mut mesh = Mesh::ZERO;
         mesh.nodes = 4;
-        mesh.count = 3;
-        mesh.links[0] = link(0, 1, 850, 101);
-        mesh.links[1] = link(0, 3, u16::MAX, 0);
-        mesh.links[2] = link(1, 2, 0, u32::MAX);
+        mesh.count = 4;
+        mesh.links[0] = link(0, 1, 850, 101, 7);
+        mesh.links[1] = link(0, 3, u16::MAX, 0, 0);
+        mesh.links[2] = link(1, 2, 0, u32::MAX, 0);
+        mesh.links[3] = link(2, 3, 0, 0, u16::MAX);
         mesh
     };
 
-    const fn link(low: u8, high: u8, length: u16, pair: u32) -> Link {
+    const fn link(low: u8, high: u8, length: u16, pair: u32, duct: u16) -> Link {
         Link {
             low,
             high,
             length,
             pair,
+            duct,
         }
     }
 
@@ -165,27 +174,28 @@ mod tests {
     }
 
     #[test]
-    fn writes_four_numbers_for_each_link() {
-        let text = "nodes 4\n0 1 850 101\n0 3 65535 0\n1 2 0 4294967295\n";
+    fn writes_the_shortest_line_for_each_link() {
+        let text = "nodes 4\n0 1 850 101 7\n0 3 65535\n1 2 0 4294967295\n2 3 0 0 65535\n";
         assert_eq!(text_of(&MEASURED), text);
         assert_eq!(read(text), Ok(MEASURED));
+        let plain = "nodes 2\n0 1\n";
+        assert_eq!(text_of(&read(plain).unwrap()), plain);
     }
 
     #[test]
     fn fields_left_out_are_zero() {
-        let text = "nodes 4\n0 1 850 101\n0 3 65535\n1 2 0 4294967295\n";
+        let text = "nodes 4\n0 1 850 101 7\n0 3 65535 0 0\n1 2 0 4294967295 0\n2 3 0 0 65535";
         assert_eq!(read(text), Ok(MEASURED));
-        assert_eq!(read("nodes 2\n0 1"), read("nodes 2\n0 1 0 0\n"));
-        assert_eq!(
-            text_of(&read("nodes 2\n0 1").unwrap()),
-            "nodes 2\n0 1 0 0\n"
-        );
+        for line in ["0 1", "0 1 0", "0 1 0 0", "0 1 0 0 0"] {
+            let table = format!("nodes 2\n{line}\n");
+            assert_eq!(text_of(&read(&table).unwrap()), "nodes 2\n0 1\n");
+        }
     }
 
     #[test]
     fn comments_and_blanks_do_not_count() {
-        let text = "# a mesh\n\n  nodes\t4 \r\n0 1 850 101\n   # 9 9\n#0 2\n \
-            0  3 065535 0\n\n1 2 0 4294967295";
+        let text = "# a mesh\n\n  nodes\t4 \r\n0 1 850 101 7\n   # 9 9\n#0 2\n \
+            0  3 065535 0\n\n1 2 0 4294967295\n2 3 0 0 065535";
         assert_eq!(read(text), Ok(MEASURED));
     }
 
@@ -281,6 +291,11 @@ mod tests {
                 "0 2 1 4294967296",
                 "fibre pair 4294967296 is too large, the most is 4294967295",
             ),
+            ("0 2 1 1 -7", "duct `-7` is not a decimal number"),
+            (
+                "0 2 1 1 65536",
+                "duct 65536 is too large, the most is 65535",
+            ),
         ] {
             assert_fault(&table(line), &format!("line 4: {expected}"));
         }
@@ -288,10 +303,10 @@ mod tests {
 
     #[test]
     fn names_the_line_with_too_few_or_too_many_words() {
-        for (line, words) in [("2", 1), ("0 2 1 1 1", 5), ("0 2 1 1 # new", 6)] {
+        for (line, words) in [("2", 1), ("0 2 1 1 1 1", 6), ("0 2 1 1 1 # new", 7)] {
             let expected = format!(
-                "line 2: a link is `low high length pair` or `low high length` \
-                 or `low high`, here are {words} words"
+                "line 2: a link is `low high length pair duct`, the last one, two or \
+                 three left out where they are 0; here are {words} words"
             );
             assert_fault(&format!("nodes 4\n{line}\n"), &expected);
         }

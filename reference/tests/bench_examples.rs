@@ -126,6 +126,43 @@ fn absent_high_end_after_low_end_255_is_256() {
 }
 
 #[test]
+fn a_duct_stands_at_bit_4_in_two_bytes_after_the_fibre_pair() {
+    let mut ducted = mesh(3, &[(0, 1), (0, 2), (1, 2)]);
+    ducted.links[0].duct = 1;
+    ducted.links[1].pair = 0x0403_0201;
+    ducted.links[1].duct = 0x0605;
+    ducted.links[2].duct = 65_535;
+    let book = [
+        1, 3, 3, 0, 0x10, 1, 0, 0x1a, 2, 1, 2, 3, 4, 5, 6, 0x11, 1, 255, 255,
+    ];
+    assert_reads(&book, &ducted);
+    assert_eq!(record(&book, 1), (&book[7..15], Ok(())));
+    // Short by a byte of the duct, and by both.
+    assert_refuses(&book[..18], refused(Reason::BookShort, 18));
+    assert_refuses(&book[..17], refused(Reason::BookShort, 17));
+}
+
+#[test]
+fn a_duct_of_0_is_not_written() {
+    let needless = refused(Reason::NeedlessField, 4);
+    assert_refuses(&[1, 2, 1, 0, 0x10, 0, 0], needless);
+    // 1 before 9, and 9 before 7.
+    let short = refused(Reason::BookShort, 6);
+    assert_refuses(&[1, 2, 1, 0, 0x10, 0], short);
+    assert_refuses(&[1, 2, 1, 0, 0x12, 0, 0, 0], needless);
+}
+
+#[test]
+fn bits_5_to_7_are_reserved() {
+    for bit in 5..8 {
+        let expected = refused(Reason::ReservedBit, 4);
+        assert_refuses(&[1, 2, 1, 0, 1 << bit], expected);
+        // 5 before the second 1.
+        assert_refuses(&[1, 2, 1, 0, 1 << bit | 0x10, 0], expected);
+    }
+}
+
+#[test]
 fn records_as_they_stand_in_the_book() {
     assert_eq!(record(&P1, 0), (&P1[4..5], Ok(())));
     assert_eq!(record(&P1, 1), (&P1[5..7], Ok(())));
@@ -147,6 +184,9 @@ fn short_output_is_left() {
 fn mesh_checks_in_order() {
     let good = mesh(3, &[(0, 1), (0, 2), (1, 2)]);
     let mut wrong = good.clone();
+    wrong.links[255].duct = 1;
+    assert_eq!(wrong.check(), refused(Reason::IllFormed, 0));
+    wrong.links[255].duct = 0;
     wrong.links[255].pair = 1;
     assert_eq!(wrong.check(), refused(Reason::IllFormed, 0));
     wrong.links[2] = wrong.links[1];

@@ -93,10 +93,10 @@ fn corpus_ends_with_the_books_that_are_given() {
         std::fs::write(path, vec![1; length]).unwrap();
         run(&["corpus", "1", path, path], b"")
     };
-    let [longest, too_long] = [2_400, 2_401].map(corpus);
+    let [longest, too_long] = [2_900, 2_901].map(corpus);
     std::fs::remove_file(path).unwrap();
     let plain = run(&["corpus", "1"], b"").stdout;
-    let case = [&b"L\x60\x09"[..], &[1; 2_400]].concat();
+    let case = [&b"L\x54\x0b"[..], &[1; 2_900]].concat();
     assert!(longest.stdout == [&plain[..], &case, &case].concat());
     assert!(!too_long.status.success());
     assert!(!run(&["corpus", "1", path], b"").status.success());
@@ -124,6 +124,26 @@ fn script_writes_the_input_of_calls() {
 fn show_prints_the_lines_of_a_book() {
     let shown = run(&["show"], &P1).stdout;
     assert!(shown.starts_with(b"book 9\nread accepted\nmesh 3 3\n"));
+}
+
+#[test]
+fn digging_writes_the_input_of_dig() {
+    // The triangle with links 0 and 2 in duct 258.
+    let book = [1, 3, 3, 0, 16, 2, 1, 2, 2, 17, 1, 2, 1];
+    let input = run(&["digging", "duct", "258"], &book).stdout;
+    assert_eq!(input, [b"\x0d\0", &book[..], b"D\x02\x01"].concat());
+    let expected = "duct 258 lowest 0\nsharing 0 accepted 2\n\
+        link 0 0 1 0 0 258\nlink 2 1 2 0 0 258\n";
+    assert_eq!(run(&["dig"], &input).stdout, expected.as_bytes());
+    let input = run(&["digging", "link", "3"], &book).stdout;
+    assert_eq!(input, [b"\x0d\0", &book[..], b"L\x03\0"].concat());
+    let expected = b"sharing 3 refused 12 3\n";
+    assert_eq!(run(&["dig"], &input).stdout, expected);
+    assert!(!run(&["dig"], b"D").status.success());
+    let output = run(&["digging", "duct", "65536"], b"");
+    assert_eq!(output.status.code(), Some(2));
+    assert!(output.stdout.is_empty());
+    assert!(output.stderr.starts_with(b"duct 65536: DUCT is a number"));
 }
 
 #[test]

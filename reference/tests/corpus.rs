@@ -3,7 +3,7 @@
 use std::collections::BTreeSet;
 use std::sync::OnceLock;
 
-use reference::case::{read_cases, write_cases, Case, MOST_BYTES};
+use reference::case::{read_cases, write_cases, Case, MOST_BYTES, MOST_ENTRIES};
 use reference::corpus;
 use reference::listing::listing;
 
@@ -15,8 +15,9 @@ struct Part {
     listing: String,
 }
 
-/// Books, mesh records, plannings, scripts, books to list, old sessions.
-type Parts = [Part; 6];
+/// Books, mesh records, plannings, scripts, books to list, old sessions, duct
+/// queries.
+type Parts = [Part; 7];
 
 fn kind(case: &Case) -> usize {
     match case {
@@ -26,6 +27,7 @@ fn kind(case: &Case) -> usize {
         Case::Script(_) => 3,
         Case::Listing { .. } => 4,
         Case::Upgrade(_) => 5,
+        Case::Ducts { .. } => 6,
     }
 }
 
@@ -36,7 +38,7 @@ fn corpora() -> &'static [Parts] {
 }
 
 fn parts(cases: &[Case]) -> Parts {
-    [0, 1, 2, 3, 4, 5].map(|number| {
+    [0, 1, 2, 3, 4, 5, 6].map(|number| {
         let of_kind = cases.iter().filter(|case| kind(case) == number);
         let cases: Vec<Case> = of_kind.cloned().collect();
         let listing = listing(&cases).expect("both methods of planning agree");
@@ -130,11 +132,14 @@ fn each_kind_stands_together() {
 
 #[test]
 fn counts_and_sizes() {
-    // Books, mesh records, plannings, scripts, books to list, old sessions.
-    let fewest = [2_400, 2_000, 3_000, 4_500, 1_300, 550];
-    let most_bytes = [400_000, 250_000, 500_000, 1_300_000, 250_000, 300_000];
+    // Books, mesh records, plannings, scripts, books to list, old sessions, duct
+    // queries.
+    let fewest = [7_000, 2_500, 3_000, 4_500, 1_300, 550, 1_200];
+    let most_bytes = [
+        450_000, 350_000, 500_000, 1_300_000, 250_000, 300_000, 300_000,
+    ];
     let longest_listings = [
-        1_600_000, 600_000, 400_000, 10_000_000, 1_800_000, 1_550_000,
+        1_900_000, 600_000, 400_000, 10_200_000, 1_800_000, 1_550_000, 200_000,
     ];
     for parts in corpora() {
         for (number, part) in parts.iter().enumerate() {
@@ -143,9 +148,9 @@ fn counts_and_sizes() {
             assert!(part.listing.len() < longest_listings[number]);
         }
         let bytes = parts.iter().map(|part| write_cases(&part.cases).len());
-        assert!(bytes.sum::<usize>() < 2_500_000);
+        assert!(bytes.sum::<usize>() < 2_900_000);
         let listings = parts.iter().map(|part| part.listing.len());
-        assert!(listings.sum::<usize>() < 15_300_000);
+        assert!(listings.sum::<usize>() < 16_100_000);
     }
 }
 
@@ -159,6 +164,10 @@ fn rooms_and_books_are_within_the_limit() {
             Case::Script(script) => (0, script.book.len()),
             Case::Listing { book } => (0, book.len()),
             Case::Upgrade(_) => (0, 0),
+            Case::Ducts { room, .. } => {
+                assert!(usize::from(*room) <= MOST_ENTRIES);
+                (0, 0)
+            }
         };
         assert!(usize::from(room) <= MOST_BYTES);
         assert!(length <= MOST_BYTES);
@@ -179,6 +188,7 @@ fn every_refusal_is_met() {
         assert_eq!(refusals(parts, "plan"), mesh_and(&[20, 21]));
         assert_eq!(refusals(parts, "start"), mesh_and(&[]));
         assert_eq!(refusals(parts, "carry-over"), mesh_and(&[]));
+        assert_eq!(refusals(parts, "sharing"), mesh_and(&[11, 12]));
         let plannings = &parts[2].listing;
         assert!(count_lines(plannings, "plan accepted") >= 1_100);
         assert!(count_lines(plannings, "plan refused 20 ") >= 500);
@@ -188,7 +198,7 @@ fn every_refusal_is_met() {
 
 #[test]
 fn every_refusal_of_a_listing_is_met() {
-    for [_, _, _, _, part, _] in corpora() {
+    for [_, _, _, _, part, ..] in corpora() {
         let lines = part.listing.lines();
         let refused = lines.filter_map(|line| line.strip_prefix("refused "));
         let numbers = refused.map(|rest| rest.split(' ').next().unwrap().parse().unwrap());
@@ -243,7 +253,7 @@ fn every_refusal_after_a_carry_over_is_met() {
         ("run", &[3, 23]),
         ("route", &[3, 14, 23]),
     ];
-    for [.., upgrades] in corpora() {
+    for [.., upgrades, _] in corpora() {
         for (word, expected) in calls {
             let expected = expected.iter().copied().collect();
             let met = script_refusals(&upgrades.listing, word);
@@ -256,7 +266,7 @@ fn every_refusal_after_a_carry_over_is_met() {
 fn every_mesh_on_5_nodes_is_planned_and_each_planned_one_is_listed() {
     // So many graphs on 5 nodes are whole, and whole without any one link.
     let planned = 253;
-    for [_, _, plannings, _, listings, _] in corpora() {
+    for [_, _, plannings, _, listings, ..] in corpora() {
         let lines: Vec<&str> = plannings.listing.lines().collect();
         let on_5_nodes = |case: &&[&str]| case[0].split(' ').nth(2) == Some("5");
         let cases: Vec<&[&str]> = lines.chunks(4).filter(on_5_nodes).collect();
@@ -290,7 +300,7 @@ fn of_cut(line: &str) -> Option<&str> {
 
 #[test]
 fn route_lengths_are_known_and_not_known() {
-    for [_, _, _, scripts, listings, _] in corpora() {
+    for [_, _, _, scripts, listings, ..] in corpora() {
         let lengths = scripts.listing.lines().filter_map(of_status);
         let (known, not_known) = known_and_not_known(lengths);
         assert!(known >= 1_000 && not_known >= 1_000, "{known} {not_known}");
@@ -309,6 +319,39 @@ fn four_lists_have_thousands_of_calls() {
             _ => false,
         };
         assert_eq!(scripts.cases.iter().filter(is_long).count(), 4);
+    }
+}
+
+#[test]
+fn duct_queries_are_answered_and_leave_the_rest() {
+    for [.., queries] in corpora() {
+        let listing = &queries.listing;
+        assert!(count_lines(listing, "sharing accepted") >= 400);
+        assert!(count_lines(listing, "sharing refused 11 ") >= 150);
+        assert!(count_lines(listing, "sharing refused 12 ") >= 200);
+        assert!(listing.contains("\ncount 256\n"));
+        assert!(listing.contains("\nsharing refused 11 256\n"));
+        let lines: Vec<&str> = listing.lines().collect();
+        for query in lines.chunks(4) {
+            let count: usize = query[2].strip_prefix("count ").unwrap().parse().unwrap();
+            let entries: Vec<&str> = query[3].split(' ').skip(1).collect();
+            assert!(entries[count..].iter().all(|entry| *entry == "42405"));
+            assert!(!entries[..count].contains(&"42405"));
+            assert_eq!(count > 0, query[1] == "sharing accepted");
+        }
+    }
+}
+
+#[test]
+fn links_of_carried_over_sessions_have_no_duct() {
+    for [.., upgrades, _] in corpora() {
+        for case in &upgrades.cases {
+            let Case::Upgrade(upgrade) = case else {
+                continue;
+            };
+            let (session, _) = upgrade.old.carry_over();
+            assert!(session.mesh.links.iter().all(|link| link.duct == 0));
+        }
     }
 }
 

@@ -11,7 +11,7 @@ use reference::table::{read, text_of};
 use program::run;
 
 const P5: [u8; 13] = [1, 4, 5, 0, 0, 2, 2, 2, 3, 1, 1, 1, 2];
-const P5_TABLE: &str = "nodes 4\n0 1 0 0\n0 2 0 0\n0 3 0 0\n1 2 0 0\n2 3 0 0\n";
+const P5_TABLE: &str = "nodes 4\n0 1\n0 2\n0 3\n1 2\n2 3\n";
 
 fn assert_answers(command: &str, input: &[u8], expected: &[u8]) {
     let output = run(&[command], input);

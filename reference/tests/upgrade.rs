@@ -4,7 +4,7 @@
 mod path;
 
 use path::assert_one_path;
-use reference::corpus::meshes::{all_filled, with_powers_of_two};
+use reference::corpus::meshes::{all_filled, with_ducts, with_powers_of_two};
 use reference::corpus::scripts::caller::Caller;
 use reference::corpus::scripts::grounds::{middle, p5, small, triangle};
 use reference::corpus::scripts::odd::{flood, some_plan, STATES};
@@ -29,6 +29,11 @@ fn zeros() -> Session {
 
 fn fresh(mesh: &Mesh) -> OldSession {
     OldSession::fresh(mesh, &plan(mesh).0)
+}
+
+/// The mesh as an old session held it.
+fn without_ducts(mesh: &Mesh) -> Mesh {
+    with_ducts(mesh, |_| 0)
 }
 
 fn after_cut(mesh: &Mesh, link: u16) -> OldSession {
@@ -198,13 +203,13 @@ fn p6_is_carried_over_with_wavelength_2_just_after_its_cut() {
 }
 
 #[test]
-fn every_field_of_the_mesh_and_the_plan_is_kept() {
+fn every_field_of_the_mesh_and_the_plan_is_kept_and_no_link_has_a_duct() {
     let random = &mut Random::new(1);
     for _ in 0..200 {
         let mesh = all_filled(&small(random), random);
         let plan = some_plan(&mesh, random);
         let session = carried(&OldSession::fresh(&mesh, &plan));
-        assert_eq!(session, start(&mesh, &plan).0);
+        assert_eq!(session, start(&without_ducts(&mesh), &plan).0);
     }
 }
 
@@ -272,7 +277,7 @@ fn a_carry_over_is_the_cut_and_the_deliveries_since_it_on_wavelength_1() {
         let mesh = ground(turn, random);
         let mut caller = OldCaller::new(&mesh, random);
         BEFORE[turn % BEFORE.len()](&mut caller);
-        let (mut expected, _) = start(&mesh, &plan(&mesh).0);
+        let (mut expected, _) = start(&without_ducts(&mesh), &plan(&mesh).0);
         if let Some(link) = caller.session.cut {
             assert_eq!(expected.cut(link), Ok(()));
             stood += 1;
@@ -455,7 +460,7 @@ fn a_mended_old_session_becomes_a_fresh_one() {
         let mesh = ground(turn, random);
         let mut caller = OldCaller::new(&mesh, random);
         mended(&mut caller);
-        let (expected, _) = start(&mesh, &plan(&mesh).0);
+        let (expected, _) = start(&without_ducts(&mesh), &plan(&mesh).0);
         assert_eq!(carried(&caller.session), expected);
     }
 }

@@ -1,6 +1,8 @@
 //! Meshes whose books are accepted.
 
-use super::meshes::{filled, longest, plain, random_mesh, Fill, LENGTHS, PAIRS};
+use std::ops::Range;
+
+use super::meshes::{filled, longest, plain, random_mesh, Fill, DUCTS, LENGTHS, PAIRS};
 use super::shapes;
 use crate::mesh::{Link, Mesh};
 use crate::random::Random;
@@ -74,12 +76,22 @@ fn every_length_and_pair() -> Vec<Mesh> {
     meshes
 }
 
-/// Each bit map in the first, a middle and the last record of five. Only the
-/// first record can lack both ends: a later one would repeat a pair (8).
+/// Each bit map without a duct in the first, a middle and the last record of
+/// five. Only the first record can lack both ends: a later one would repeat a
+/// pair (8).
 fn every_bit_map() -> Vec<Mesh> {
+    bit_maps(0..16)
+}
+
+/// Each bit map with a duct, in the same way.
+pub fn every_bit_map_with_a_duct() -> Vec<Mesh> {
+    bit_maps(16..32)
+}
+
+fn bit_maps(bit_maps: Range<u8>) -> Vec<Mesh> {
     let mut meshes = Vec::new();
     for at in [0, 2, 4] {
-        for bit_map in 0..16 {
+        for bit_map in bit_maps.clone() {
             if at == 0 || bit_map & 3 != 0 {
                 meshes.push(with_bit_map(at, bit_map));
             }
@@ -100,6 +112,7 @@ fn with_bit_map(at: u8, bit_map: u8) -> Mesh {
             high: low + 1 + (map >> 1 & 1) * (number + 1),
             length: u16::from(map >> 2 & 1) * LENGTHS[usize::from(number) % 4],
             pair: u32::from(map >> 3 & 1) * PAIRS[usize::from(bit_map) % 7],
+            duct: u16::from(map >> 4 & 1) * DUCTS[usize::from(bit_map) % 6],
         });
     }
     Mesh::new(40, &links)

@@ -55,13 +55,16 @@ fn plausible_header(random: &mut Random) -> Vec<u8> {
     book
 }
 
-/// Records with random bit maps below 16 and mostly small ends.
+/// Records with random bit maps below 32 and mostly small ends. The ducts are
+/// drawn aside.
 fn plausible_records(random: &mut Random) -> Vec<u8> {
+    let mut aside = random.aside();
     let count = random.between(1, 6) as u8;
     let mut book = vec![1, 64, count, 0];
     for number in 0..count {
         let bit_map = random.below(16) as u8;
-        book.push(bit_map);
+        let duct = aside.below(2) as u8;
+        book.push(bit_map | duct << 4);
         if bit_map & 1 != 0 {
             book.push(number * 8 + random.below(9) as u8);
         }
@@ -70,6 +73,7 @@ fn plausible_records(random: &mut Random) -> Vec<u8> {
         }
         let others = usize::from(bit_map >> 2 & 1) * 2 + usize::from(bit_map >> 3) * 4;
         book.extend((0..others).map(|_| random.below(2) as u8));
+        book.extend((0..2 * duct).map(|_| aside.below(2) as u8));
     }
     book
 }

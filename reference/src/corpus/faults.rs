@@ -98,7 +98,7 @@ fn faults_in_large(random: &mut Random) -> Vec<Vec<u8>> {
     chosen.map(|fault| book_with(&mesh, 255, fault)).collect()
 }
 
-/// 2,308 bytes: 256 records with all four fields. No mesh has such a book,
+/// 2,820 bytes: 256 records with all five fields. No mesh has such a book,
 /// because the low end would have to rise in each record.
 fn all_fields_in_all_records(random: &mut Random) -> Vec<u8> {
     let mut draft = Draft::of(&longest(random));
@@ -150,8 +150,8 @@ mod tests {
     #[test]
     fn all_fields_in_all_records_take_the_greatest_length() {
         let book = all_fields_in_all_records(&mut Random::new(1));
-        assert_eq!(book.len(), 2_308);
-        let place = 4 + 61 * 9;
+        assert_eq!(book.len(), 2_820);
+        let place = 4 + 61 * 11;
         let expected = Refusal::new(Reason::NotAfterPrevious, place);
         assert_eq!(decode(&book).1, Err(expected));
     }

@@ -1,9 +1,8 @@
 //! Books with a wrong header, or with more or fewer records than it says.
 
 use super::draft::Draft;
-use super::meshes::{filled, longest, plain, random_mesh, Fill, LONGEST_BOOK};
+use super::meshes::{filled, longest, plain, random_mesh, with_ducts, Fill};
 use super::shapes;
-use crate::case::MOST_BYTES;
 use crate::mesh::{Link, Mesh};
 use crate::random::Random;
 use crate::record::Record;
@@ -105,7 +104,8 @@ fn nodes_too_few(mesh: &Mesh) -> Vec<Draft> {
     nodes.map(draft).collect()
 }
 
-/// 10: 1 to 5 bytes after the last record, and as many as a case can hold.
+/// 10: 1 to 5 bytes after the last record, and 287 after the longest book
+/// without ducts.
 fn extra_bytes(random: &mut Random) -> Vec<Draft> {
     let mut drafts = Vec::new();
     for turn in 0..50 {
@@ -118,12 +118,12 @@ fn extra_bytes(random: &mut Random) -> Vec<Draft> {
     for count in 1..=5 {
         drafts.push(with_extra(&full, count, random));
     }
-    let count = MOST_BYTES - LONGEST_BOOK;
-    drafts.push(with_extra(&longest(random), count, random));
+    let without_ducts = with_ducts(&longest(random), |_| 0);
+    drafts.push(with_extra(&without_ducts, 287, random));
     drafts
 }
 
-fn with_extra(mesh: &Mesh, count: usize, random: &mut Random) -> Draft {
+pub fn with_extra(mesh: &Mesh, count: usize, random: &mut Random) -> Draft {
     let extra = match random.below(3) {
         0 => vec![0; count],
         1 => vec![0xff; count],

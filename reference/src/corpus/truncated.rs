@@ -1,6 +1,6 @@
 //! Books without their last bytes.
 
-use super::meshes::{longest, random_mesh};
+use super::meshes::{longest, random_mesh, with_ducts};
 use crate::book::bytes_of;
 use crate::random::Random;
 
@@ -16,11 +16,12 @@ pub fn books(random: &mut Random) -> Vec<Vec<u8>> {
     books
 }
 
-/// A book of at most 120 bytes.
+/// A book of at most 120 bytes, without ducts.
 fn small_book(count: usize, random: &mut Random) -> Vec<u8> {
     loop {
         let nodes = random.between(6, 64) as u8;
-        let book = bytes_of(&random_mesh(nodes, count, random));
+        let mesh = random_mesh(nodes, count, random);
+        let book = bytes_of(&with_ducts(&mesh, |_| 0));
         if book.len() <= 120 {
             return book;
         }

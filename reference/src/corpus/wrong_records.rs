@@ -24,7 +24,7 @@ impl Spot {
     }
 
     /// The link's own record.
-    fn record(&self) -> Record {
+    pub fn record(&self) -> Record {
         Record::of(&self.link, self.previous.as_ref())
     }
 
@@ -57,15 +57,15 @@ pub fn faults(spot: &Spot) -> Vec<Fault> {
     faults
 }
 
-/// 5, each bit and all.
+/// 5, each bit, two and all.
 fn reserved_bits(spot: &Spot) -> Vec<Fault> {
     let record = spot.record();
     let with_bits = |reserved| Record { reserved, ..record };
-    let records = [0x10, 0x20, 0x40, 0x80, 0xf0].map(with_bits);
+    let records = [0x20, 0x40, 0x80, 0xa0, 0xe0].map(with_bits);
     met_by(Reason::ReservedBit, records)
 }
 
-/// 9, each field and all.
+/// 9, each field but the duct, and all of these.
 fn needless_fields(spot: &Spot) -> Vec<Fault> {
     let record = spot.record();
     let low = Some(spot.low_when_absent());
@@ -83,6 +83,7 @@ fn needless_fields(spot: &Spot) -> Vec<Fault> {
             high: both,
             length,
             pair,
+            duct: None,
         },
     ];
     met_by(Reason::NeedlessField, records)
@@ -153,6 +154,7 @@ fn without_ends() -> Vec<Record> {
                 high: None,
                 length,
                 pair,
+                duct: None,
             });
         }
     }
@@ -166,7 +168,7 @@ fn reserved_and_other(spot: &Spot) -> Vec<Fault> {
     others.extend(end_not_below_nodes(spot).first());
     others.extend(not_after_previous(spot).first());
     let with_bit = |(_, record): Fault| Record {
-        reserved: 0x10,
+        reserved: 0x20,
         ..record
     };
     met_by(Reason::ReservedBit, others.into_iter().map(with_bit))
@@ -251,6 +253,6 @@ fn ends_with_two_faults(spot: &Spot) -> Vec<Fault> {
     faults
 }
 
-fn met_by(reason: Reason, records: impl IntoIterator<Item = Record>) -> Vec<Fault> {
+pub fn met_by(reason: Reason, records: impl IntoIterator<Item = Record>) -> Vec<Fault> {
     records.into_iter().map(|record| (reason, record)).collect()
 }

@@ -120,7 +120,7 @@ fn digit(state: u8) -> char {
     }
 }
 
-fn spaced(numbers: impl Iterator<Item = u16>) -> String {
+pub fn spaced(numbers: impl Iterator<Item = u16>) -> String {
     let words: Vec<String> = numbers.map(|number| number.to_string()).collect();
     words.join(" ")
 }

@@ -49,6 +49,7 @@ mod tests {
             high,
             length,
             pair,
+            duct: 0,
         };
         let links = [
             link(0, 1, 0, 0),

@@ -68,12 +68,14 @@ impl OldSession {
 }
 
 impl OldLink {
+    /// A link carried over has no duct.
     fn carried(&self) -> Link {
         Link {
             low: self.low,
             high: self.high,
             length: self.length,
             pair: self.pair,
+            duct: 0,
         }
     }
 }

@@ -2,6 +2,7 @@
 
 use super::{Call, GivenFlood, GivenSession, Origin, Script};
 use crate::book::decode;
+use crate::entries::{read_entry, write_entry};
 use crate::mesh::{Link, MOST_LINKS, MOST_NODES};
 use crate::reader::Reader;
 
@@ -60,9 +61,7 @@ fn write_session(given: &GivenSession, output: &mut Vec<u8>) {
     }
     output.push(given.links.len() as u8);
     for (index, link) in &given.links {
-        output.extend([*index, link.low, link.high]);
-        output.extend(link.length.to_le_bytes());
-        output.extend(link.pair.to_le_bytes());
+        write_entry(*index, link, output);
     }
     output.push(given.nodes);
     output.extend(given.count.to_le_bytes());
@@ -140,7 +139,7 @@ fn read_session(reader: &mut Reader) -> Option<GivenSession> {
     let cut = read_cut(reader)?;
     let floods = [read_flood(reader)?, read_flood(reader)?];
     let count = reader.one()?;
-    let links: Option<Vec<(u8, Link)>> = (0..count).map(|_| read_link(reader)).collect();
+    let links: Option<Vec<(u8, Link)>> = (0..count).map(|_| read_entry(reader)).collect();
     Some(GivenSession {
         directions,
         cut,
@@ -164,17 +163,6 @@ pub fn read_flood(reader: &mut Reader) -> Option<GivenFlood> {
 
 fn read_state(reader: &mut Reader) -> Option<(u8, u8)> {
     Some((reader.one()?, reader.one()?))
-}
-
-fn read_link(reader: &mut Reader) -> Option<(u8, Link)> {
-    let index = reader.one()?;
-    let link = Link {
-        low: reader.one()?,
-        high: reader.one()?,
-        length: reader.two()?,
-        pair: reader.four()?,
-    };
-    Some((index, link))
 }
 
 fn read_call(reader: &mut Reader) -> Option<Call> {

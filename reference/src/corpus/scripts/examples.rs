@@ -66,7 +66,7 @@ fn run(mesh: &Mesh, cut: u16, turns: &[(u16, u8)]) -> Vec<Script> {
     vec![asked(&[Call::Run(u32::MAX)]), asked(&deliveries)]
 }
 
-fn every_cut(mesh: &Mesh) -> Script {
+pub fn every_cut(mesh: &Mesh) -> Script {
     let cut = |link| {
         [
             Call::Cut(link),

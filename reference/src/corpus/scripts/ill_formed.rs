@@ -58,7 +58,7 @@ fn wrong_largest(good: &Session) -> Vec<Session> {
 }
 
 /// Each kind of call, in random order, with links in and out of range.
-fn called(session: &Session, mesh: &Mesh, random: &mut Random) -> Script {
+pub fn called(session: &Session, mesh: &Mesh, random: &mut Random) -> Script {
     let mut caller = Caller::on(session, mesh, random);
     let mut calls = [
         Call::Cut(caller.link()),
