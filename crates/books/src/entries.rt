@@ -13,29 +13,32 @@ pub(crate) fn show_links(m: Mesh) -> u64 {
     let mut i: usize = 0;
     while i < 256 {
         let l = m.links[i];
-        rest += show_entry(i, count, l);
+        let duct = m.ducts[i];
+        rest += show_entry(i, count, l, duct);
         i += 1;
     }
     rest as u64
 }
 
 // The line of entry i where it is a link; 1 for one past the last link that is not all zero, else 0.
-fn show_entry(i: usize, count: usize, l: Link) -> usize
+fn show_entry(i: usize, count: usize, l: Link, duct: u16) -> usize
     ensures { λ r. ⌜ r ≤ 1 ⌝ }
 {
     if i < count {
-        show_link(i as u64, l);
+        show_link(i as u64, l, duct);
         return 0;
     }
-    let sum = l.low as u64 + l.high as u64 + l.length as u64 + l.pair as u64;
+    let sum = l.low as u64 + l.high as u64 + l.length as u64 + l.pair as u64 + duct as u64;
     if sum == 0 { 0 } else { 1 }
 }
 
-fn show_link(i: u64, l: Link) {
+// The line of link i, which has this duct.
+pub fn show_link(i: u64, l: Link, duct: u16) {
     field(b"link", i);
     number(l.low as u64);
     number(l.high as u64);
     number(l.length as u64);
     number(l.pair as u64);
+    number(duct as u64);
     end();
 }

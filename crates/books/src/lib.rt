@@ -1,5 +1,5 @@
 // The lines of a book: what the library reads from it, writes again, and shows of one record (docs/CORPUS.md, lines of a book).
-mod entries;
+pub mod entries;
 pub mod written;
 
 use crate::entries::show_links;

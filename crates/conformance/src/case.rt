@@ -1,10 +1,11 @@
-// One case of the corpus: a book, a book to list, a mesh record, a mesh to plan, a script, or an old session.
+// One case of the corpus: a book, a book to list, a mesh record, a mesh to plan, a script, an old session, or a duct query.
 use crate::book::run_book;
 use crate::book::run_listed;
 use crate::calls::run_script;
 use crate::old_session::run_upgrade;
 use crate::planning::run_planning;
 use crate::record::run_mesh;
+use crate::sharing::run_sharing;
 use libc::STDIN_FILENO;
 
 // Reads the next case, prints its answers, and says whether there was one.
@@ -19,6 +20,7 @@ pub(crate) fn run_case(case: u64) -> bool {
 fn run_kind(kind: u8, case: u64) -> bool {
     match kind {
         b'B' => run_book(case),
+        b'D' => run_sharing(case),
         b'L' => run_listed(case),
         b'M' => run_mesh(case),
         b'P' => run_planning(case),

@@ -5,6 +5,7 @@ mod case;
 mod old_session;
 mod planning;
 mod record;
+mod sharing;
 
 // The most cases that are read, so that the loop ends whatever the input holds.
 const MOST_CASES: u64 = 1000000;

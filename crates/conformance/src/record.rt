@@ -18,7 +18,8 @@ pub(crate) fn run_mesh(case: u64) {
     show_digest(started(m, plan));
 }
 
-fn read_record() -> Mesh {
+// The mesh of the entries that come next.
+pub(crate) fn read_record() -> Mesh {
     let mut m = mesh::zero_mesh();
     m.nodes = next_byte();
     m.count = next_two();

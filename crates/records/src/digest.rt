@@ -41,12 +41,13 @@ fn with_four(d: u64, n: u32) -> u64
     with_two(with_two(d, low), high)
 }
 
-fn with_link(d: u64, l: Link) -> u64
+// The digest after a link and its duct.
+fn with_link(d: u64, l: Link, duct: u16) -> u64
     requires { ⌜ d < 4294967291 ⌝ }
     ensures { λ r. ⌜ r < 4294967291 ⌝ }
 {
     let ends = next(next(d, l.low), l.high);
-    with_four(with_two(ends, l.length), l.pair)
+    with_two(with_four(with_two(ends, l.length), l.pair), duct)
 }
 
 fn with_links(d: u64, m: Mesh) -> u64
@@ -57,7 +58,8 @@ fn with_links(d: u64, m: Mesh) -> u64
     let mut i: usize = 0;
     while i < 256 {
         let l = m.links[i];
-        digest = with_link(digest, l);
+        let duct = m.ducts[i];
+        digest = with_link(digest, l, duct);
         i += 1;
     }
     digest

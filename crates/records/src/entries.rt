@@ -28,7 +28,7 @@ fn read_link(m: Mesh, at: u16) -> Mesh {
         length: 0,
         pair: 0,
     };
-    with_entry(m, at as u8, l)
+    with_entry(m, at as u8, l, 0)
 }
 
 // The mesh with the entries that come next, each with its index.
@@ -48,17 +48,20 @@ fn read_entry(m: Mesh) -> Mesh {
     let high = next_byte();
     let length = next_two();
     let pair = next_four();
+    let duct = next_two();
     let l = Link {
         low,
         high,
         length,
         pair,
     };
-    with_entry(m, at, l)
+    with_entry(m, at, l, duct)
 }
 
-fn with_entry(m: Mesh, at: u8, l: Link) -> Mesh {
+// The mesh with a link and its duct at this index.
+fn with_entry(m: Mesh, at: u8, l: Link, duct: u16) -> Mesh {
     let mut filled = m;
     filled.links[at as usize] = l;
+    filled.ducts[at as usize] = duct;
     filled
 }
