@@ -21,7 +21,7 @@ use std::process::ExitCode;
 
 use reference::book::{bytes_of, decode};
 use reference::case::{read_cases, write_cases, MOST_BYTES};
-use reference::programs::{dig_of, Dig};
+use reference::programs::dig::{dig_of, Dig};
 use reference::refusal::in_words;
 use reference::script::{calls_of, Call};
 use reference::timing::program::Program;
@@ -113,11 +113,11 @@ fn write_shown() -> io::Result<()> {
 
 fn write_digging(dig: Dig) -> io::Result<()> {
     let book = read_input()?;
-    io::stdout().write_all(&programs::input_of_dig(&book, dig))
+    io::stdout().write_all(&programs::dig::input_of(&book, dig))
 }
 
 fn write_dug() -> io::Result<()> {
-    let lines = programs::dig(&read_input()?);
+    let lines = programs::dig::answer(&read_input()?);
     let lines = lines.ok_or_else(|| io::Error::other("ill-formed input"))?;
     io::stdout().write_all(lines.as_bytes())
 }

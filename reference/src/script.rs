@@ -7,6 +7,7 @@ pub use bytes::{read_calls, read_script, write_calls, write_script};
 pub(crate) use bytes::{read_cut, read_directions, read_flood};
 pub(crate) use bytes::{write_cut, write_directions, write_flood};
 pub use words::calls_of;
+pub(crate) use words::number;
 
 use crate::book::decode;
 use crate::mesh::{Link, Mesh, MOST_LINKS};

@@ -57,7 +57,7 @@ fn wavelength(before: &str, rest: &mut Rest) -> Result<u8, String> {
 }
 
 /// The number after a call's word, or after the word and its first number.
-fn number<Number: FromStr + Display>(
+pub fn number<Number: FromStr + Display>(
     before: &str,
     name: &str,
     most: Number,
