@@ -36,8 +36,12 @@ fn show_entries(entries: &[u16]) {
     word(b"out");
     let mut i: usize = 0;
     while i < entries.len() {
-        number(entries[i] as u64);
+        show_entry(entries[i]);
         i += 1;
     }
     end();
+}
+
+fn show_entry(k: u16) {
+    number(k as u64);
 }

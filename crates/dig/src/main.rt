@@ -38,17 +38,26 @@ fn show_dig(m: Mesh, letter: u8, n: u16) {
     }
 }
 
-// The lowest link in a duct, and all links in it. The number 0 is no duct.
+// The lowest link in a duct, and all links in it.
 fn show_duct(m: Mesh, duct: u16) {
     field(b"duct", duct as u64);
-    let k = lowest_in(m, duct);
-    if duct == 0 || m.count as usize <= k || 255 < k {
+    let k = lowest(m, duct);
+    if 255 < k {
         word(b" none\n");
         return;
     }
     field(b" lowest", k as u64);
     end();
     show_sharing(m, k as u16);
+}
+
+// The lowest link in a duct; 256 where no link lies in it, as in duct 0, which is none.
+fn lowest(m: Mesh, duct: u16) -> usize {
+    if duct == 0 {
+        return 256;
+    }
+    let k = lowest_in(m, duct);
+    if k < m.count as usize { k } else { 256 }
 }
 
 // The answer to the query by duct, with the number of links, and a line for each of them.

@@ -22,6 +22,12 @@ mul-l c = search needs
 element-copy-out-l : tie.Need-element-copy-out-l Inv-loop μ-loop
 element-copy-out-l c = search needs
 
+mul-duct : tie.Need-mul-duct Inv-loop μ-loop
+mul-duct c = search needs
+
+element-copy-out-duct : tie.Need-element-copy-out-duct Inv-loop μ-loop
+element-copy-out-duct c = search needs
+
 show-entry-requires : tie.Need-show-entry-requires Inv-loop μ-loop
 show-entry-requires c κs = search needs
 
@@ -50,6 +56,8 @@ show-links-spec =
     loop-holds
     mul-l
     element-copy-out-l
+    mul-duct
+    element-copy-out-duct
     show-entry-requires
     add-rest
     add-i

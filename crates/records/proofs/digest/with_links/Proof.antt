@@ -19,6 +19,12 @@ mul-l c = search needs
 element-copy-out-l : tie.Need-element-copy-out-l Inv-loop μ-loop
 element-copy-out-l c = search needs
 
+mul-duct : tie.Need-mul-duct Inv-loop μ-loop
+mul-duct c = search needs
+
+element-copy-out-duct : tie.Need-element-copy-out-duct Inv-loop μ-loop
+element-copy-out-duct c = search needs
+
 with-link-requires : tie.Need-with-link-requires Inv-loop μ-loop
 with-link-requires c κs = search needs
 
@@ -43,6 +49,8 @@ with-links-spec =
     loop-holds
     mul-l
     element-copy-out-l
+    mul-duct
+    element-copy-out-duct
     with-link-requires
     add-i
     loop-less
