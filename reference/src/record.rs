@@ -41,6 +41,7 @@ impl Record {
 
     /// Reads the fields that the bit map names, in bit order; none if the
     /// bytes end before them.
+    #[inline]
     pub fn read_fields(bit_map: u8, reader: &mut Reader) -> Option<Record> {
         Some(Record {
             reserved: bit_map & RESERVED,
@@ -79,6 +80,7 @@ impl Record {
     }
 
     /// The ends, absent ones by their absent values.
+    #[inline]
     pub fn ends(&self, previous: Option<&Link>) -> Ends {
         let low = self.low.unwrap_or_else(|| low_when_absent(previous)).into();
         let high = self.high.map_or(high_when_absent(low), u16::from);
@@ -86,6 +88,7 @@ impl Record {
     }
 
     /// Whether some field is present and equal to its absent value.
+    #[inline]
     pub fn has_needless_field(&self, previous: Option<&Link>) -> bool {
         let (low, _) = self.ends(previous);
         self.low == Some(low_when_absent(previous))
