@@ -1,4 +1,5 @@
--- The query by duct meets 02: each refusal on its own condition, acceptance else; the list at the front of the output, which stays as it was past it, and whole on a refusal. Assumes nothing.
+-- The query by duct meets 02: each refusal on its own condition, acceptance else; the list at the front of the output, which is as it was past
+-- the list, and all of it on a refusal. Assumes nothing.
 use Prim.Native.Nat.{ℕ, _<_, _≤_}
 use mathlib.Core.Path.{_≡_, refl, sym, subst, _∙_}
 use mathlib.Core.List.{List}
@@ -49,6 +50,13 @@ answered m k room = go (sharingAnswer m k room)
 -- each refusal on its own condition
 pub refused-only : (m : Mesh) (k room number place : ℕ) → shared m k room .answer ≡ Refused number place → Refusal m k room number place
 refused-only m k room number place e = told-refused (subst (Tells (Passed m k room) (Refusal m k room)) (sym (answered m k room) ∙ e) (told m k room))
+
+-- and it tells of no link
+pub refused-none : (m : Mesh) (k room number place : ℕ) → shared m k room .answer ≡ Refused number place → shared m k room .count ≡ 0
+unfolding shared
+refused-none m k room number place e =
+    let a : sharingAnswer m k room ≡ Refused number place = sym (answered m k room) ∙ e in
+    rw a
 
 -- acceptance exactly where none of the conditions holds
 pub accepted-only : (m : Mesh) (k room : ℕ) → shared m k room .answer ≡ Accepted → (meshAnswer m ≡ Accepted) × (k < m .count) × (length (sharing m k) ≤ room)
