@@ -4,7 +4,7 @@ use Prim.Native.Nat.{ℕ, _*_, _≤_, _<_}
 use mathlib.Core.Path.{_≡_, refl}
 use mathlib.Core.Bool.{true}
 use mathlib.Core.Logic.{_⊎_, _↔_}
-use mathlib.Core.List.{List, _++_, map, List·Memᴰ}
+use mathlib.Core.List.{List, [], _∷_, _++_, map, List·Memᴰ}
 use native.Mathlib.Omega.{arith}
 use lib.ListN.{length, take, drop}
 use Rattle.scan.specs.Bytes.{AreBytes}
@@ -50,6 +50,15 @@ use Rattle.history.specs.Laws.Measured.{demand-length}
 use Rattle.history.specs.Laws.Undisturbed.{undisturbed, runs-alone}
 use Rattle.history.specs.Laws.Unhindered.{runs-out}
 use Rattle.history.specs.Laws.Counted.{had-made}
+use Rattle.ducts.specs.Sharing.{sharing, shared}
+use Rattle.ducts.specs.Sharing as ducts
+use Rattle.ducts.specs.Meaning.{Lists}
+use Rattle.ducts.specs.Meaning as ductQuery
+use Rattle.ducts.specs.Laws.Sharing.{sharing-lists, sharing-same, sharing-alone, sharing-most}
+use Rattle.ducts.specs.Laws.Query as query
+use Rattle.planner.specs.Laws.ByEnds.{planned-by-ends}
+use Rattle.topology.specs.Backup.{backupOn}
+use Rattle.topology.specs.Laws.ByEnds.{backup-by-ends}
 use Rattle.legacy.specs.declared.OldMesh.{OldMesh}
 use Rattle.legacy.specs.declared.OldSession.{OldSession}
 use Rattle.legacy.specs.Record as oldTest
@@ -68,6 +77,8 @@ use Rattle.carried.specs.Laws.Demand.{demand-carried}
 use Rattle.carried.specs.Laws.Replayed.{replayed-same}
 use Rattle.carried.specs.Laws.Computed as carriedComputed
 use Rattle.guarantees.specs.Bench.{Row, table, Holds}
+use Rattle.guarantees.specs.DuctBench as ductRows
+use Rattle.guarantees.specs.Laws.DuctsComputed as ductsComputed
 use Rattle.guarantees.specs.Laws.Computed.{row-holds}
 
 -- ---- the mesh checks (contract: crates/mesh/src/lib.rt, `check`)
@@ -290,9 +301,11 @@ ducts-same = sharing-same
 pub ducts-alone : (m : Mesh) (k : ℕ) → k < m .count → duct m k ≡ 0 → sharing m k ≡ k ∷ []
 ducts-alone = sharing-alone
 
--- the query accepts a mesh that passes the checks, a link of it and an output with an entry for each link that is listed, never more than there are links
-pub ducts-accepted : (m : Mesh) (k room : ℕ) → meshAnswer m ≡ Accepted → k < m .count → length (sharing m k) ≤ room → shared m k room .answer ≡ Accepted
-ducts-accepted = accepts
+-- the query accepts exactly a mesh that passes the checks, a link of it and an output with an entry for each link that is listed; these are never more than
+-- there are links
+pub ducts-accepts : (m : Mesh) (k room : ℕ)
+    → (shared m k room .answer ≡ Accepted) ↔ ((meshAnswer m ≡ Accepted) × (k < m .count) × (length (sharing m k) ≤ room))
+ducts-accepts = query.accepts-exactly
 
 pub ducts-most : (m : Mesh) (k : ℕ) → length (sharing m k) ≤ m .count
 ducts-most = sharing-most
@@ -300,14 +313,14 @@ ducts-most = sharing-most
 -- then the answer has the list's number, the list stands at the front of the output, and the entries past it are as they were
 pub ducts-written : (m : Mesh) (k : ℕ) (out : List ℕ) → shared m k (length out) .answer ≡ Accepted
     → (shared m k (length out) .count ≡ length (sharing m k))
-    × (take (length (sharing m k)) (output.outputAfter m k out) ≡ sharing m k)
-    × (drop (length (sharing m k)) (output.outputAfter m k out) ≡ drop (length (sharing m k)) out)
-ducts-written = accepted-writes
+    × (take (length (sharing m k)) (ducts.outputAfter m k out) ≡ sharing m k)
+    × (drop (length (sharing m k)) (ducts.outputAfter m k out) ≡ drop (length (sharing m k)) out)
+ducts-written = query.accepted-writes
 
--- any other is refused on its own condition, at its own place, and the output stays as it was
+-- any other is refused on its own condition, at its own place; no link is counted then, and the output stays as it was
 pub ducts-refused : (m : Mesh) (k : ℕ) (out : List ℕ) (number place : ℕ) → shared m k (length out) .answer ≡ Refused number place
-    → ducts.Refusal m k (length out) number place × (output.outputAfter m k out ≡ out)
-ducts-refused m k out number place e = (refused-query m k (length out) number place e, refused-writes m k out e)
+    → ductQuery.Refusal m k (length out) number place × (shared m k (length out) .count ≡ 0) × (ducts.outputAfter m k out ≡ out)
+ducts-refused = query.refusal-told
 
 -- neither the plan nor the back-up arcs depend on ducts, nor on lengths and fibre pairs
 pub plan-by-ends : (m m′ : Mesh) → SameEnds m m′ → meshAnswer m ≡ Accepted → meshAnswer m′ ≡ Accepted → planned m ≡ planned m′

@@ -2,6 +2,7 @@
 -- the list, and all of it on a refusal. Assumes nothing.
 use Prim.Native.Nat.{ℕ, _<_, _≤_}
 use mathlib.Core.Path.{_≡_, refl, sym, subst, _∙_}
+use mathlib.Core.Logic.{_↔_}
 use mathlib.Core.List.{List}
 use borrow.Author.Tests.{ltb-true, ltb-false, leb-true, leb-false, lt-ltb, le-leb}
 use lib.Dec.{ltb, leb}
@@ -66,6 +67,10 @@ pub accepts : (m : Mesh) (k room : ℕ) → meshAnswer m ≡ Accepted → k < m 
 unfolding sharingAnswer
 accepts m k room h l r = answered m k room ∙ rw (h, lt-ltb k (m .count) l, le-leb _ room r)
 
+pub accepts-exactly : (m : Mesh) (k room : ℕ)
+    → (shared m k room .answer ≡ Accepted) ↔ ((meshAnswer m ≡ Accepted) × (k < m .count) × (length (sharing m k) ≤ room))
+accepts-exactly m k room = (accepted-only m k room, λ (h, l, r). accepts m k room h l r)
+
 -- ---- the output
 
 module _ (m : Mesh) (k : ℕ) (out : List ℕ) where
@@ -91,3 +96,8 @@ module _ (m : Mesh) (k : ℕ) (out : List ℕ) where
   refused-keeps number place e =
       let a : sharingAnswer m k (length out) ≡ Refused number place = sym (answered m k (length out)) ∙ e in
       rw a
+
+  -- all that a refusal tells
+  pub refusal-told : (number place : ℕ) → shared m k (length out) .answer ≡ Refused number place
+      → Refusal m k (length out) number place × (shared m k (length out) .count ≡ 0) × (outputAfter m k out ≡ out)
+  refusal-told number place e = (refused-only m k (length out) number place e, refused-none m k (length out) number place e, refused-keeps number place e)

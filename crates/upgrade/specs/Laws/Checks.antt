@@ -46,7 +46,7 @@ ends-carried m = λ j. tableOf (λ i. parts.endsOf (link-carried m i j)) (m .cou
 
 -- no entry has a duct
 pub no-duct : (m : OldMesh) (i : ℕ) → duct (meshOf m) i ≡ 0
-no-duct m i = replicate-at 256 0 i
+no-duct m i = replicate-at {A = ℕ} 256 0 i
 
 -- ---- the entries past the last link
 
