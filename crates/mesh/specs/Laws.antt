@@ -7,3 +7,4 @@ pub mod Refused
 pub mod Checked
 pub mod GoodMesh
 pub mod Parts
+pub mod ByEnds

@@ -16,7 +16,7 @@ use Rattle.mesh.specs.Refusal.{Refusal, nodes-unfit, count-unfit, first-
 use Rattle.mesh.specs.Laws.Answer.{Tells, told-accepted, tells-accepted}
 use Rattle.mesh.specs.Laws.Refused.{Sound, mesh-told}
 
-sound : (m : Mesh) → meshAnswer m ≡ Accepted → Sound m
+pub sound : (m : Mesh) → meshAnswer m ≡ Accepted → Sound m
 sound m e = told-accepted (subst (Tells (Sound m) (Refusal m)) e (mesh-told m))
 
 -- what holds of any accepted mesh, however many entries its list has

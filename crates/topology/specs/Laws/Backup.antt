@@ -39,10 +39,10 @@ module _ (m : Mesh) (p : Plan) (good : meshAnswer m ≡ Accepted) where
     zero : cond {A = ℕ} (eqb (at (p .directions) i) 0) 0 0 ≡ 0
     zero = branch (λ (v : ℕ). v ≡ 0) (eqb (at (p .directions) i) 0) (λ e. refl) (λ e. refl)
 
-    pub tail-past : backTail m p i ≡ 0
+    tail-past : backTail m p i ≡ 0
     tail-past = rw past zero
 
-    pub head-past : backHead m p i ≡ 0
+    head-past : backHead m p i ≡ 0
     head-past = rw past zero
 
   -- both ends of a link are nodes, and 255 is none
