@@ -17,7 +17,6 @@ use record_writer::widened;
 use room::lacking;
 ghost use mathlib.Core.Path.{_≡_};
 ghost use lib.ListN.{length};
-ghost use Rattle.mesh.specs.WellFormed.{InRange};
 ghost use Rattle.writer.specs.Written.{written, outputAfter};
 
 // The length of the longest book: an output of this length has room for any.

@@ -58,8 +58,9 @@ pub(crate) fn put_record(out: &mut [u8], prev: Link, f: Fields) -> usize
     let a = put_field(out, 1, LOW, f.low as u32, prev.low as u32);
     let b = put_field(out, a, HIGH, f.high as u32, f.low as u32 + 1);
     let c = put_field(out, b, LENGTH, f.length as u32, 0);
+    let duct = f.duct as u32;
     let d = put_field(out, c, PAIR, f.pair, 0);
-    let end = put_field(out, d, DUCT, f.duct as u32, 0);
+    let end = put_field(out, d, DUCT, duct, 0);
     out[0] = bit_map(prev, f);
     end
 }

@@ -9,7 +9,6 @@ ghost use mathlib.Core.Bool.{cond};
 ghost use Prim.Native.Nat.{_≤_};
 ghost use lib.Dec.{leb};
 ghost use lib.ListN.{length};
-ghost use Rattle.mesh.specs.WellFormed.{InRange};
 ghost use Rattle.writer.specs.Written.{bookOf};
 
 // How many bytes the book of m has.

@@ -18,7 +18,9 @@ same-length c = search needs
 
 returns : tie.Need-returns
 unfolding encoded
-returns c = (ap as-encoded (c .write-book .ensures .0), c .write-book .ensures .1)
+returns c =
+    let e = c .before .before .write-book .ensures in
+    (ap as-encoded (e .0), e .1)
 
 pub encode-spec : {M : Type 1} → statement M
 encode-spec = tie.close (tie.spec write-book-requires same-length returns)

@@ -1,56 +1,89 @@
--- The length of a book, and what storing it gives. Assumes nothing.
+-- The length of a book, and the ways out of writing it. Assumes nothing.
 use Prim.Native.Nat.{ℕ, _+_, _*_, _≤_, _<_}
-use mathlib.Core.Path.{_≡_, _∙_}
+use mathlib.Core.Path.{_≡_, sym, _∙_}
 use mathlib.Core.List.{List, [], _∷_}
-use mathlib.Core.Bool.{true, false}
+use mathlib.Core.Bool.{cond}
 use native.Mathlib.Omega.{arith}
-use borrow.Author.Tests.{le-leb, lt-leb}
+use borrow.Author.Tests.{leb-true, leb-false, le-leb, lt-leb}
+use lib.Dec.{leb}
 use lib.ListN.{length, take, length-append, length-take}
 use lib.Seq.{sets}
+use Rattle.scan.specs.Test.{branch}
 use Rattle.scan.specs.Store.{sets-front}
 use Rattle.mesh.specs.declared.Link.{Link}
 use Rattle.mesh.specs.declared.Mesh.{Mesh}
-use Rattle.mesh.specs.Mesh.{zeroLink, countFits}
-use Rattle.fields.specs.Record.{longestRecord, recordOf}
+use Rattle.mesh.specs.declared.Answer.{Answer}
+use Rattle.mesh.specs.declared.Answer.the-variants.{Accepted, Refused}
+use Rattle.mesh.specs.Mesh.{zeroLink, meshAnswer}
+use Rattle.fields.specs.declared.Fields.{Fields}
+use Rattle.fields.specs.Record.{asLink, longestRecord, recordOf}
+use Rattle.fields.specs.Entries.{entriesOf}
 use Rattle.fields.specs.Laws.Record.{record-most}
-use Rattle.writer.specs.Written.{recordsOf, bookOf, longestBook, bookLength, bookStored}
+use Rattle.writer.specs.declared.Written.{Written}
+use Rattle.writer.specs.Written.{recordsOf, bookOf, longestBook, encodeAnswer, written, outputAfter}
 
 -- the header takes four bytes
-pub length-book : (m : Mesh) → length (bookOf m) ≡ 4 + length (recordsOf zeroLink (take (m .count) (m .links)))
+pub length-book : (m : Mesh) → length (bookOf m) ≡ 4 + length (recordsOf zeroLink (take (m .count) (entriesOf m)))
 unfolding bookOf
 length-book m = omega arith
 
-records-most : (p : Link) (ls : List Link) → length (recordsOf p ls) ≤ longestRecord * length ls
+records-most : (p : Link) (fs : List Fields) → length (recordsOf p fs) ≤ longestRecord * length fs
 unfolding recordsOf
 records-most p [] = omega arith
-records-most p (l ∷ ls) = rw (length-append (recordOf p l) (recordsOf l ls)) (omega (arith, record-most p l, records-most l ls))
+records-most p (f ∷ fs) =
+    rw (length-append (recordOf p f) (recordsOf (asLink f) fs)) (omega (arith, record-most p f, records-most (asLink f) fs))
 
 -- no book is longer than the longest
 pub book-within : (m : Mesh) → m .count ≤ 256 → length (bookOf m) ≤ longestBook
 book-within m h =
-    omega (arith, length-book m, records-most zeroLink (take (m .count) (m .links)), length-take (m .count) (m .links))
+    omega (arith, length-book m, records-most zeroLink (take (m .count) (entriesOf m)), length-take (m .count) (entriesOf m))
 
 -- ---- the ways out of `write_book`
 
--- the length n and the output `after` are what storing the book of m in `out` gives
-abbrev pub Stores : Mesh → List ℕ → ℕ → List ℕ → Type 0
-Stores m out n after = (n ≡ bookLength m) × (after ≡ bookStored m out)
+-- 0 where `room` bytes are enough for the book of m, else how many it has
+abbrev pub lacking : Mesh → ℕ → ℕ
+lacking m room = cond (leb (length (bookOf m)) room) 0 (length (bookOf m))
+
+-- a book has at least its header, so that 0 says that it fits
+pub lacks : (m : Mesh) (room n : ℕ) → n ≡ lacking m room → 0 < n → (room < length (bookOf m)) × (n ≡ length (bookOf m))
+lacks m room n e =
+    branch (λ (v : ℕ). n ≡ v → 0 < n → (room < length (bookOf m)) × (n ≡ length (bookOf m))) (leb (length (bookOf m)) room)
+    (λ t q h. absurd (omega arith))
+    (λ t q h. (leb-false _ _ t, q))
+    e
+
+pub fits : (m : Mesh) (room n : ℕ) → n ≡ lacking m room → n ≤ 0 → length (bookOf m) ≤ room
+fits m room n e =
+    branch (λ (v : ℕ). n ≡ v → n ≤ 0 → length (bookOf m) ≤ room) (leb (length (bookOf m)) room)
+    (λ t q h. leb-true _ _ t)
+    (λ t q h. absurd (omega (arith, length-book m)))
+    e
+
+-- the result r and the output `after` are what writing m to `out` gives
+abbrev pub Writes : Mesh → List ℕ → Written → List ℕ → Type 0
+Writes m out r after = (r ≡ written m (length out)) × (after ≡ outputAfter m out)
 
 module _ (m : Mesh) (out : List ℕ) where
-  -- there are too many links
-  pub store-none : countFits (m .count) ≡ false → Stores m out 0 out
-  unfolding bookLength bookStored
-  store-none e = (rw e, rw e)
+  -- the mesh is refused
+  pub write-refused : (a : Answer) {number place : ℕ} → a ≡ meshAnswer m → a ≡ Refused number place
+      → Writes m out (record { length = 0; answer = a }) out
+  unfolding written outputAfter encodeAnswer
+  write-refused a {number} {place} e r = let h : meshAnswer m ≡ Refused number place = sym e ∙ r in (rw (h, r), rw h)
 
-  module _ (e : countFits (m .count) ≡ true) where
+  module _ (h : meshAnswer m ≡ Accepted) (n : ℕ) (q : n ≡ lacking m (length out)) where
     -- the output is short
-    pub store-short : (n : ℕ) → n ≡ length (bookOf m) → length out < n → Stores m out n out
-    unfolding bookLength bookStored
-    store-short n q h = (rw (e, q), rw (e, lt-leb (length (bookOf m)) (length out) (omega arith)))
+    pub write-short : 0 < n → Writes m out (record { length = 0; answer = Refused 11 n }) out
+    unfolding written outputAfter encodeAnswer
+    write-short l =
+        let (less, size) = lacks m (length out) n q l in
+        let short = lt-leb _ _ less in
+        (rw (h, short, size), rw (h, short))
 
     -- the book is stored
-    pub store-done : (n : ℕ) → n ≡ length (bookOf m) → n ≤ length out → {after : List ℕ} → after ≡ sets out 0 (bookOf m) → Stores m out n after
-    unfolding bookLength bookStored
-    store-done n q h s =
-        let fits : length (bookOf m) ≤ length out = omega arith in
-        (rw (e, q), s ∙ (sets-front (bookOf m) out fits ∙ rw (e, le-leb (length (bookOf m)) (length out) fits)))
+    pub write-done : n ≤ 0 → (at : ℕ) → at ≡ length (bookOf m) → {after : List ℕ} → after ≡ sets out 0 (bookOf m)
+        → Writes m out (record { length = at; answer = Accepted }) after
+    unfolding written outputAfter encodeAnswer
+    write-done l at e s =
+        let room = fits m (length out) n q l in
+        let enough = le-leb _ _ room in
+        (rw (h, enough, e), s ∙ (sets-front (bookOf m) out room ∙ rw (h, enough)))

@@ -4,9 +4,6 @@ use borrow.Author.Needs.{needs}
 use Rattle.writer.proofs.record_writer.length_of.Statement.{statement}
 use Rattle.writer.proofs.record_writer.length_of.Tie as tie
 
-widened-requires : tie.Need-widened-requires
-widened-requires c κs = search needs
-
 bit-map-requires : tie.Need-bit-map-requires
 bit-map-requires c κs = search needs
 
@@ -14,10 +11,7 @@ record-length-requires : tie.Need-record-length-requires
 record-length-requires c κs = search needs
 
 returns : tie.Need-returns
-returns c =
-    let b = c .before in
-    (rw (← b .before .widened .ensures, length-record, ← b .bit-map .ensures) (c .record-length .ensures .0), c .record-length .ensures .1)
+returns c = (rw (length-record, ← c .before .bit-map .ensures) (c .record-length .ensures .0), c .record-length .ensures .1)
 
 pub length-of-spec : {M : Type 1} → statement M
-length-of-spec =
-    tie.close (tie.spec widened-requires bit-map-requires record-length-requires returns)
+length-of-spec = tie.close (tie.spec bit-map-requires record-length-requires returns)

@@ -1,19 +1,19 @@
--- `writer::records::book_length` meets its contract. The loop keeps that n and the length of the records from link i on make the length of the book.
+-- `writer::room::book_length` meets its contract. The loop keeps that n and the length of the records from link i on make the length of the book.
 use borrow.Author.Needs.{needs}
 use native.Mathlib.Omega.{arith}
 use mathlib.Core.Path.{_≡_, sym, ap}
 use Prim.Native.Nat.{_+_, _-_, _*_, _≤_}
-use lib.ListN.{length, take, drop}
-use Rattle.scan.specs.Part.{length-mapped}
+use lib.ListN.{length}
 use Rattle.fields.specs.Record.{longestRecord}
-use Rattle.writer.specs.Written.{recordsOf, bookOf}
-use Rattle.writer.specs.Laws.Writing.{records-end, length-records-next}
+use Rattle.writer.specs.Written.{bookOf}
+use Rattle.writer.specs.Laws.Writing.{recordsFrom, records-end, length-records-next}
 use Rattle.writer.specs.Laws.Length.{length-book}
-use Rattle.writer.proofs.records.book_length.Statement.{statement}
-use Rattle.writer.proofs.records.book_length.Tie as tie
+use Rattle.writer.proofs.Ranges.{in-range}
+use Rattle.writer.proofs.room.book_length.Statement.{statement}
+use Rattle.writer.proofs.room.book_length.Tie as tie
 
 abbrev Inv-loop : tie.InvT-loop
-Inv-loop m k prev₀ n₀ i₀ prev n i = (i ≤ k) × ((n ≤ 4 + longestRecord * i) × (n + length (recordsOf prev (drop i (take k (m .links)))) ≡ length (bookOf m)))
+Inv-loop m k prev₀ n₀ i₀ prev n i = (i ≤ k) × ((n ≤ 4 + longestRecord * i) × (n + length (recordsFrom prev m i) ≡ length (bookOf m)))
 
 abbrev μ-loop : tie.MeasureT-loop
 μ-loop m k prev₀ n₀ i₀ prev n i = k - i
@@ -33,6 +33,15 @@ mul-l c = search needs
 element-copy-out-l : tie.Need-element-copy-out-l Inv-loop μ-loop
 element-copy-out-l c = search needs
 
+mul-widened : tie.Need-mul-widened Inv-loop μ-loop
+mul-widened c = search needs
+
+element-copy-out-widened : tie.Need-element-copy-out-widened Inv-loop μ-loop
+element-copy-out-widened c = search needs
+
+widened-requires : tie.Need-widened-requires Inv-loop μ-loop
+widened-requires c κs = search needs
+
 length-of-requires : tie.Need-length-of-requires Inv-loop μ-loop
 length-of-requires c κs = search needs
 
@@ -47,17 +56,19 @@ loop-less c = search needs
 
 loop-again : tie.Need-loop-again Inv-loop μ-loop
 loop-again c =
-    let b = c .before .before .before in
-    let a = b .before .before .args .t1 in
+    let w = c .before in
+    let b = w .before .before .before .before in
+    let s = b .before .before in
+    let m = s .args .t1 in
     let lo = b .loop in
-    let sized : length (a .links) ≡ 256 = length-mapped _ (a .links) 256 (b .before .before .good .0 .1 .1 .0 .1 .0 .1) in
-    (omega arith, (omega arith, omega (arith, lo .inv .1 .1, length-records-next (lo .prev) (a .links) (a .count) (lo .i) (omega arith) (omega arith))))
+    let next = length-records-next (lo .prev) m (lo .i) (w .widened .result) (w .widened .ensures) (omega arith) (s .pre) (in-range m _ (s .good .0)) in
+    (omega arith, (omega arith, omega (arith, lo .inv .1 .1, c .length-of .ensures .0, next)))
 
 returns : tie.Need-returns Inv-loop μ-loop
 returns c =
-    let a = c .before .before .before .args .t1 in
+    let m = c .before .before .before .args .t1 in
     let lo = c .before .loop in
-    omega (arith, lo .inv .1 .1, ap length (records-end (lo .prev) (a .links) (a .count) (lo .i) (c .loop-test .left)))
+    omega (arith, lo .inv .1 .1, ap length (records-end (lo .prev) m (lo .i) (c .loop-test .left)))
 
 pub book-length-spec : {M : Type 1} → statement M
 book-length-spec =
@@ -70,6 +81,9 @@ book-length-spec =
     loop-holds
     mul-l
     element-copy-out-l
+    mul-widened
+    element-copy-out-widened
+    widened-requires
     length-of-requires
     add-n
     add-i
