@@ -2,9 +2,8 @@
 -- records with the new field (02, request 4). Definitions only; the theorem is `ducts-bench` of Main.
 use Prim.Native.Nat.{ℕ}
 use mathlib.Core.Path.{_≡_}
-use mathlib.Core.List.{List, [], _∷_, _++_}
+use mathlib.Core.List.{List, [], _∷_}
 use lib.ListN.{replicate}
-use Rattle.mesh.specs.declared.Link.{Link}
 use Rattle.mesh.specs.declared.Mesh.{Mesh}
 use Rattle.mesh.specs.declared.Answer.the-variants.{Accepted, Refused}
 use Rattle.mesh.specs.Mesh.{zeroLink}
