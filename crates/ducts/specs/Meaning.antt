@@ -4,7 +4,7 @@ use mathlib.Core.Path.{_≡_}
 use mathlib.Core.Logic.{_≢_, _⊎_, _↔_}
 use mathlib.Core.List.{List, List·Memᴰ}
 use lib.ListN.{length}
-use Rattle.scan.specs.Distinct.{Rising}
+use Rattle.scan.specs.Distinct.{Distinct, Rising}
 use Rattle.mesh.specs.declared.Mesh.{Mesh}
 use Rattle.mesh.specs.declared.Answer.the-variants.{Accepted, Refused}
 use Rattle.mesh.specs.Mesh.{meshAnswer}
@@ -15,9 +15,10 @@ use Rattle.ducts.specs.Sharing.{sharing}
 abbrev pub Shares : Mesh → ℕ → ℕ → Type 0
 Shares m k i = (i ≡ k) ⊎ ((duct m k ≢ 0) × (duct m i ≡ duct m k))
 
--- the list holds exactly the links of m that share the duct of link k, in rising order, so each once
+-- the list holds exactly the links of m that share the duct of link k, each once, in rising order
 pub record Lists (m : Mesh) (k : ℕ) (l : List ℕ) : Type 0 where
   pub rising : Rising l
+  pub once : Distinct l
   pub exactly : (i : ℕ) → List·Memᴰ i l ↔ ((i < m .count) × Shares m k i)
 
 -- the condition of a refusal of the query with an output of `room` entries, by number and place

@@ -289,7 +289,7 @@ carry-over-replayed = replayed-same
 
 -- ---- 02, request 4: duct numbers (contract: crates/ducts/src/lib.rt, `sharing`; in the book: the theorems on reading and writing above)
 
--- the query's list holds exactly the links that share the duct of the named link, that one included, in rising order, so each once
+-- the query's list holds exactly the links that share the duct of the named link, that one included, each once, in rising order
 pub ducts-listed : (m : Mesh) (k : ℕ) → k < m .count → Lists m k (sharing m k)
 ducts-listed = sharing-lists
 

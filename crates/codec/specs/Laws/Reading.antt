@@ -38,7 +38,7 @@ left-all : (k : ℕ) → k - 0 ≡ k
 left-all k = omega arith
 
 -- the records from the header on of the book s, which says n nodes and k links
-abbrev pub allRecords : List ℕ → ℕ → ℕ → Answer
+abbrev allRecords : List ℕ → ℕ → ℕ → Answer
 allRecords s n k = recordsAnswer n (length s) zeroLink 4 k (drop 4 s)
 
 -- i of k records are read into m, the last link is prev, and the next record stands at `at`
@@ -76,7 +76,7 @@ module _ (s : List ℕ) (n k : ℕ) (m : Mesh) (prev : Link) (at i : ℕ) (R : R
   entries = length-entries m even ∙ R .links
 
   -- a refused record
-  pub reading-refused : i < k → {number place : ℕ} → recordAnswer n (length s) prev at (drop at s) ≡ Refused number place
+  reading-refused : i < k → {number place : ℕ} → recordAnswer n (length s) prev at (drop at s) ≡ Refused number place
       → allRecords s n k ≡ Refused number place
   unfolding recordsAnswer
   reading-refused h e = R .answer ∙ rw (left-next k i h, e)
@@ -133,7 +133,7 @@ module _ (s : List ℕ) (n k : ℕ) (m : Mesh) (prev : Link) (at i : ℕ) (R : R
     reading-turn e f g = rw (e, f, g) reading-next
 
   -- after the last record: 10 where bytes are left
-  pub reading-over : k ≤ i → must (leb (length s) at) 10 at Accepted ≡ allRecords s n k
+  reading-over : k ≤ i → must (leb (length s) at) 10 at Accepted ≡ allRecords s n k
   unfolding recordsAnswer
   reading-over h = sym (R .answer ∙ rw (left-none k i h, length-drop at s) (ap (λ (t : Bool). must t 10 at Accepted) left))
     where
@@ -141,7 +141,7 @@ module _ (s : List ℕ) (n k : ℕ) (m : Mesh) (prev : Link) (at i : ℕ) (R : R
       left = says-same (eq-says (length s - at) 0) (λ t. omega (arith, leb-true (length s) at t), λ q. le-leb (length s) at (omega arith))
 
   -- the mesh is then the book's
-  pub reading-mesh : k ≤ i → n ≡ getD s 1 0 → k ≡ number 2 s 2 → m ≡ meshOf s
+  reading-mesh : k ≤ i → n ≡ getD s 1 0 → k ≡ number 2 s 2 → m ≡ meshOf s
   unfolding meshOf fieldsFrom
   reading-mesh h en ek =
       let e : i ≡ k = omega (arith, R .some) in
@@ -179,12 +179,12 @@ pub record Going (s : List ℕ) (n k : ℕ) (header : Answer) (m : Mesh) (prev :
 
 module _ (s : List ℕ) where
   -- a refused header decides
-  pub book-refused : {refusal place : ℕ} → headerAnswer s ≡ Refused refusal place → bookAnswer s ≡ Refused refusal place
+  book-refused : {refusal place : ℕ} → headerAnswer s ≡ Refused refusal place → bookAnswer s ≡ Refused refusal place
   unfolding bookAnswer
   book-refused e = rw e
 
   -- after a good header, which says n nodes and k links, the records do
-  pub book-records : headerAnswer s ≡ Accepted → {n k : ℕ} → n ≡ getD s 1 0 → k ≡ number 2 s 2 → bookAnswer s ≡ allRecords s n k
+  book-records : headerAnswer s ≡ Accepted → {n k : ℕ} → n ≡ getD s 1 0 → k ≡ number 2 s 2 → bookAnswer s ≡ allRecords s n k
   unfolding bookAnswer
   book-records e en ek = rw (e, en, ek)
 

@@ -60,7 +60,7 @@ refused-none m k room number place e =
     rw a
 
 -- acceptance exactly where none of the conditions holds
-pub accepted-only : (m : Mesh) (k room : ℕ) → shared m k room .answer ≡ Accepted → (meshAnswer m ≡ Accepted) × (k < m .count) × (length (sharing m k) ≤ room)
+accepted-only : (m : Mesh) (k room : ℕ) → shared m k room .answer ≡ Accepted → (meshAnswer m ≡ Accepted) × (k < m .count) × (length (sharing m k) ≤ room)
 accepted-only m k room e = told-accepted (subst (Tells (Passed m k room) (Refusal m k room)) (sym (answered m k room) ∙ e) (told m k room))
 
 pub accepts : (m : Mesh) (k room : ℕ) → meshAnswer m ≡ Accepted → k < m .count → length (sharing m k) ≤ room → shared m k room .answer ≡ Accepted

@@ -5,6 +5,7 @@ use mathlib.Core.Logic.{_≢_, inl, inr, ⊎-elim}
 use mathlib.Core.List.{[], _∷_, List·Memᴰ}
 use lib.ListN.{length}
 use Rattle.scan.specs.Test.{Says, eq-says, and-says, or-says, denies, failing, says-same}
+use Rattle.scan.specs.Distinct.{rising-distinct}
 use Rattle.scan.specs.Listed.{passing-le, passing-mem, passing-rising, passing-one, passing-same}
 use Rattle.mesh.specs.declared.Mesh.{Mesh}
 use Rattle.mesh.specs.WellFormed.{duct}
@@ -20,6 +21,7 @@ pub sharing-lists : (m : Mesh) (k : ℕ) → k < m .count → Lists m k (sharing
 unfolding sharing
 sharing-lists m k h = record {
   rising = passing-rising (shares (duct m) k) (m .count);
+  once = rising-distinct (sharing m k) (passing-rising (shares (duct m) k) (m .count));
   exactly = λ i.
       let mem = passing-mem (shares (duct m) k) (m .count) i in
       let says = shares-says m k i in

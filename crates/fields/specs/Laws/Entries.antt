@@ -3,7 +3,7 @@ use Prim.Native.Nat.{ℕ, zero, suc}
 use mathlib.Core.Path.{_≡_, refl, ap}
 use mathlib.Core.List.{List, [], _∷_, map}
 use native.Mathlib.Omega.{arith}
-use lib.ListN.{length, getD, take, drop, set, replicate}
+use lib.ListN.{length, getD, drop, set, replicate}
 use Rattle.scan.specs.Entry.{at}
 use Rattle.mesh.specs.declared.Link.{Link}
 use Rattle.mesh.specs.declared.Mesh.{Mesh}
@@ -17,7 +17,7 @@ use Rattle.fields.specs.Entries.{joined, entriesOf, entry, meshWith}
 abbrev ductsOf : List Fields → List ℕ
 ductsOf fs = map (λ (f : Fields). f .duct) fs
 
-pub length-joined : (ls : List Link) (ds : List ℕ) → length ls ≡ length ds → length (joined ls ds) ≡ length ls
+length-joined : (ls : List Link) (ds : List ℕ) → length ls ≡ length ds → length (joined ls ds) ≡ length ls
 unfolding joined
 length-joined [] ds e = refl
 length-joined (l ∷ ls) [] e = absurd (omega arith)
@@ -41,13 +41,6 @@ unfolding joined
 joined-parts [] = refl
 joined-parts (f ∷ fs) = λ j. f ∷ joined-parts fs j
 
-pub take-joined : (k : ℕ) (ls : List Link) (ds : List ℕ) → take k (joined ls ds) ≡ joined (take k ls) (take k ds)
-unfolding joined
-take-joined zero ls ds = refl
-take-joined (suc k) [] ds = refl
-take-joined (suc k) (l ∷ ls) [] = refl
-take-joined (suc k) (l ∷ ls) (d ∷ ds) = λ j. asFields l d ∷ take-joined k ls ds j
-
 pub drop-joined : (k : ℕ) (ls : List Link) (ds : List ℕ) → length ls ≡ length ds → drop k (joined ls ds) ≡ joined (drop k ls) (drop k ds)
 unfolding joined
 drop-joined zero ls ds e = refl
@@ -60,7 +53,7 @@ unfolding joined
 zero-joined zero = refl
 zero-joined (suc n) = λ j. zeroFields ∷ zero-joined n j
 
-pub joined-at : (ls : List Link) (ds : List ℕ) → length ls ≡ length ds → (i : ℕ) → getD (joined ls ds) i zeroFields ≡ asFields (getD ls i zeroLink) (at ds i)
+joined-at : (ls : List Link) (ds : List ℕ) → length ls ≡ length ds → (i : ℕ) → getD (joined ls ds) i zeroFields ≡ asFields (getD ls i zeroLink) (at ds i)
 unfolding joined
 joined-at [] [] e i = refl
 joined-at [] (d ∷ ds) e i = absurd (omega arith)
