@@ -1,6 +1,7 @@
 -- What a mesh is written as, and what writing it gives (01, "The book" and "Order"). Definitions only.
 use Prim.Native.Nat.{ℕ, _+_, _*_}
 use mathlib.Core.List.{List, [], _∷_, _++_}
+use mathlib.Core.Bool.{cond}
 use lib.ListN.{length, take}
 use lib.Dec.{leb}
 use Rattle.scan.specs.Bytes.{bytes}
@@ -30,6 +31,10 @@ bookOf m = version ∷ (m .nodes ∷ (bytes 2 (m .count) ++ recordsOf zeroLink (
 -- the bytes of a header and 256 records with every field
 abbrev pub longestBook : ℕ
 longestBook = 4 + 256 * longestRecord
+
+-- 0 where `room` bytes are enough for the book of m, else how many it has
+abbrev pub lacking : Mesh → ℕ → ℕ
+lacking m room = cond (leb (length (bookOf m)) room) 0 (length (bookOf m))
 
 -- writing m to an output of `room` bytes: the mesh checks, then 11
 unfoldable pub encodeAnswer : Mesh → ℕ → Answer

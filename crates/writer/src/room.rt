@@ -5,9 +5,7 @@ use crate::record_writer::widened;
 use mesh::Mesh;
 use mesh::zero_link;
 ghost use mathlib.Core.Path.{_≡_};
-ghost use mathlib.Core.Bool.{cond};
 ghost use Prim.Native.Nat.{_≤_};
-ghost use lib.Dec.{leb};
 ghost use lib.ListN.{length};
 ghost use Rattle.writer.specs.Written.{bookOf};
 
@@ -32,7 +30,7 @@ fn book_length(m: Mesh) -> usize
 // 0 where `room` bytes are enough for the book of m, else how many it has. They are counted only where the longest book would not fit.
 pub(crate) fn lacking(m: Mesh, room: usize) -> usize
     requires { ⌜ m .count ≤ 256 ⌝ }
-    ensures { λ r. ⌜ r ≡ cond (leb (length (bookOf m)) room) 0 (length (bookOf m)) ⌝ }
+    ensures { λ r. ⌜ r ≡ Rattle.writer.specs.Written.lacking m room ⌝ }
 {
     if room < LONGEST_BOOK {
         let length = book_length(m);

@@ -2,7 +2,6 @@
 use Prim.Native.Nat.{ℕ, _+_, _*_, _≤_, _<_}
 use mathlib.Core.Path.{_≡_, sym, _∙_}
 use mathlib.Core.List.{List, [], _∷_}
-use mathlib.Core.Bool.{cond}
 use native.Mathlib.Omega.{arith}
 use borrow.Author.Tests.{leb-true, leb-false, le-leb, lt-leb}
 use lib.Dec.{leb}
@@ -20,7 +19,7 @@ use Rattle.fields.specs.Record.{asLink, longestRecord, recordOf}
 use Rattle.fields.specs.Entries.{entriesOf}
 use Rattle.fields.specs.Laws.Record.{record-most}
 use Rattle.writer.specs.declared.Written.{Written}
-use Rattle.writer.specs.Written.{recordsOf, bookOf, longestBook, encodeAnswer, written, outputAfter}
+use Rattle.writer.specs.Written.{recordsOf, bookOf, longestBook, lacking, encodeAnswer, written, outputAfter}
 
 -- the header takes four bytes
 pub length-book : (m : Mesh) → length (bookOf m) ≡ 4 + length (recordsOf zeroLink (take (m .count) (entriesOf m)))
@@ -39,10 +38,6 @@ book-within m h =
     omega (arith, length-book m, records-most zeroLink (take (m .count) (entriesOf m)), length-take (m .count) (entriesOf m))
 
 -- ---- the ways out of `write_book`
-
--- 0 where `room` bytes are enough for the book of m, else how many it has
-abbrev pub lacking : Mesh → ℕ → ℕ
-lacking m room = cond (leb (length (bookOf m)) room) 0 (length (bookOf m))
 
 -- a book has at least its header, so that 0 says that it fits
 pub lacks : (m : Mesh) (room n : ℕ) → n ≡ lacking m room → 0 < n → (room < length (bookOf m)) × (n ≡ length (bookOf m))
