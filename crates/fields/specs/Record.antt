@@ -1,4 +1,4 @@
--- One link's record in the book (01, "The book"; 02, request 4). Definitions only; no other definition names the fields of a link.
+-- One link's record in the book (01, "The book"; 02, request 4). Definitions only; a record's layout is said here alone.
 use Prim.Native.Nat.{ℕ, _+_, _^_}
 use mathlib.Core.List.{List, [], _∷_}
 use mathlib.Core.Bool.{Bool, cond, not}

@@ -1,9 +1,10 @@
 -- 01's bench examples marked P, as rows of one table, which show wavelength 1 alone (02, request 2). Definitions only; the theorem over the table is `bench`
 -- of Main.
-use Prim.Native.Nat.{ℕ, zero, suc, _-_}
-use mathlib.Core.Bool.{Bool, true, cond}
+use Prim.Native.Nat.{ℕ, _-_}
+use mathlib.Core.Bool.{true, cond}
 use lib.Dec.{eqb}
 use Rattle.scan.specs.Entry.{at}
+use Rattle.scan.specs.Listed.{passing}
 use mathlib.Core.Path.{_≡_}
 use mathlib.Core.List.{List, [], _∷_, _++_, map}
 use lib.ListN.{length, replicate}
@@ -72,11 +73,6 @@ turns (c ∷ cs) s = turnsOf c s ++ turns cs (next c s)
 -- the links of those on wavelength 1
 abbrev pub turnsOnFirst : List Call → Session → List ℕ
 turnsOnFirst cs s = linksOn First (turns cs s)
-
--- the numbers below n that pass, rising
-unfoldable pub passing : (ℕ → Bool) → ℕ → List ℕ
-passing p zero = []
-passing p (suc n) = passing p n ++ cond (p n) (n ∷ []) []
 
 -- the links taken on wavelength 1
 abbrev pub takenIn : Session → List ℕ

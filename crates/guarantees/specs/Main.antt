@@ -20,6 +20,7 @@ use Rattle.fields.specs.Entries.{entry}
 use Rattle.codec.specs.Book.{longestBook, bookOf, encoded, outputAfter, decoded, spanAnswer, recordPart}
 use Rattle.codec.specs.Laws.Written.{decoded-output, book-most}
 use Rattle.codec.specs.Laws.Read.{decoded-accepted, decoded-in-range, output-decoded, one-book, accepted-most}
+use Rattle.codec.specs.Laws.Encoding.{encoded-done, encoded-short, encoded-refused}
 use Rattle.codec.specs.Laws.Prefix.{decoded-take}
 use Rattle.codec.specs.Laws.Shown.{record-shown}
 use Rattle.graph.specs.Net.{Parted, bothWays, without, First}
@@ -90,6 +91,22 @@ check-accepts m r = checks m (r .entries)
 -- a refusal is given only on its own condition, at its own place
 pub check-refuses : (m : Mesh) (number place : ℕ) → meshAnswer m ≡ Refused number place → Refusal m number place
 check-refuses = refused-only
+
+-- ---- demand 1: writing (contract: crates/codec/src/lib.rt, `encode`)
+
+-- a mesh that passes the checks is written where its book fits, and the bytes past the book stay as they were
+pub encode-accepted : (m : Mesh) (out : List ℕ) → meshAnswer m ≡ Accepted → length (bookOf m) ≤ length out
+    → (encoded m (length out) ≡ record { length = length (bookOf m); answer = Accepted }) × (outputAfter m out ≡ bookOf m ++ drop (length (bookOf m)) out)
+encode-accepted = encoded-done
+
+-- else it is refused with 11 and the bytes needed, and before that with the mesh's own refusal; then no byte changes
+pub encode-short : (m : Mesh) (out : List ℕ) → meshAnswer m ≡ Accepted → length out < length (bookOf m)
+    → (encoded m (length out) ≡ record { length = 0; answer = Refused 11 (length (bookOf m)) }) × (outputAfter m out ≡ out)
+encode-short = encoded-short
+
+pub encode-refused : (m : Mesh) (out : List ℕ) (number place : ℕ) → meshAnswer m ≡ Refused number place
+    → (encoded m (length out) ≡ record { length = 0; answer = Refused number place }) × (outputAfter m out ≡ out)
+encode-refused = encoded-refused
 
 -- ---- demand 2: reading and writing are inverse (contracts: crates/codec/src/lib.rt)
 
@@ -263,7 +280,7 @@ pub carry-over-refuses : (s : OldSession) (number place : ℕ) → oldTest.recor
     × ((m : Mesh) (p : Plan) (n q : ℕ) → startAnswer m p ≡ Refused n q → carried s .session ≡ started m p .session)
 carry-over-refuses s number place = refused-as-start s
 
--- else it is accepted: mesh, plan, cut and wavelength 1 are the old ones, and wavelength 2 is as in a fresh session or as just after the cut that stands
+-- else it is accepted: mesh, plan, cut and wavelength 1 are the old ones, no link has a duct, and wavelength 2 is as in a fresh session or as just after the cut that stands
 pub carry-over-keeps : (s : OldSession) → oldTest.recordAnswer s ≡ Accepted → Keeps s (carried s .session)
 carry-over-keeps = carried-keeps
 
@@ -317,9 +334,12 @@ pub ducts-written : (m : Mesh) (k : ℕ) (out : List ℕ) → shared m k (length
     × (drop (length (sharing m k)) (ducts.outputAfter m k out) ≡ drop (length (sharing m k)) out)
 ducts-written = query.accepted-writes
 
--- any other is refused on its own condition, at its own place; no link is counted then, and the output stays as it was
+-- it refuses exactly on 02's conditions, each at its own place; no link is counted then, and the output stays as it was
+pub ducts-refuses : (m : Mesh) (k room number place : ℕ) → (shared m k room .answer ≡ Refused number place) ↔ ductQuery.Refusal m k room number place
+ducts-refuses = query.refuses-exactly
+
 pub ducts-refused : (m : Mesh) (k : ℕ) (out : List ℕ) (number place : ℕ) → shared m k (length out) .answer ≡ Refused number place
-    → ductQuery.Refusal m k (length out) number place × (shared m k (length out) .count ≡ 0) × (ducts.outputAfter m k out ≡ out)
+    → (shared m k (length out) .count ≡ 0) × (ducts.outputAfter m k out ≡ out)
 ducts-refused = query.refusal-told
 
 -- neither the plan nor the back-up arcs depend on ducts, nor on lengths and fibre pairs

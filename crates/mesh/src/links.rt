@@ -21,7 +21,8 @@ pub fn ends_of(l: Link) -> u16
     256 * (l.low as u16) + l.high as u16
 }
 
-// The bits of all fields, joined. The factors put them where they stand in memory, so that the compiler reads them at once.
+// A number that is 0 just where all fields of the link are: their bits, joined. The factors put them where they stand in memory, so that the compiler reads
+// them at once.
 pub fn bits_of(l: Link) -> u64
     ensures { λ r. ⌜ eqb r 0 ≡ isZero l ⌝ }
 {
@@ -52,7 +53,7 @@ pub struct Parts {
     pub length: Length,
 }
 
-// Takes a mesh apart: stores the ends of each link as one number, and says whether each entry past the last link is zero, and how long the links
+// Takes a mesh apart: stores the ends of each link as one number, and says whether each entry past the last link, and its duct number, is zero, and how long the links
 // are together whose numbers are the first n of `row`. The entries of `ends` past the last link stay. All loops stand here, since a mesh is
 // copied for each function that takes it; the second and third have no branch, so that the compiler tests several entries at once, and the second
 // starts at an even one, so that two entries that are read at once, 16 bytes, do not lie across two blocks of 16 of the copy.

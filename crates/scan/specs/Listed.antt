@@ -59,7 +59,7 @@ module _ (p : ℕ → Bool) where
   pub counted-fail : (i n : ℕ) → n ≡ length (passing p i) → p i ≡ false → n ≡ length (passing p (i + 1))
   counted-fail i n e t = rw (passing-fail i t) e
 
-  pub length-passing : (n : ℕ) → length (passing p n) ≡ count p n
+  length-passing : (n : ℕ) → length (passing p n) ≡ count p n
   length-passing =
       by-index (λ n. length (passing p n) ≡ count p n)
       (sym counted-none ∙ count-none p)
@@ -70,7 +70,7 @@ module _ (p : ℕ → Bool) where
   passing-le n = omega (arith, length-passing n, count-le p n)
 
   -- fewer pass below one that passes than below a later index
-  pub passing-less : (n i : ℕ) → i < n → p i ≡ true → length (passing p i) < length (passing p n)
+  passing-less : (n i : ℕ) → i < n → p i ≡ true → length (passing p i) < length (passing p n)
   passing-less =
       by-index (λ n. (i : ℕ) → i < n → p i ≡ true → length (passing p i) < length (passing p n))
       (λ i l t. absurd (omega arith))

@@ -1,4 +1,4 @@
--- What owning a mesh tells of its fields: they are in the ranges of their types, and there are 256 entries. Assumes nothing.
+-- As in crate mesh, whose proof files another crate cannot name. What owning a mesh tells of its fields: they are in the ranges of their types, and there are 256 entries. Assumes nothing.
 use Prim.Native.Nat.{ℕ, zero, suc, _<_}
 use mathlib.Core.List.{List, [], _∷_, map}
 use lib.Dec.{lit<}

@@ -29,7 +29,7 @@ pub struct Written {
 }
 
 // Stores the book of m at the front of out: the mesh checks, then 11. Bytes past the book stay as they were, and all of out on a refusal. The loops of
-// the checks stand here as in `mesh::split`, and so does that over the records: a mesh is copied for each function that takes it.
+// the checks stand here as in `mesh::split_along`, and so does that over the records: a mesh is copied for each function that takes it.
 pub fn write_book(m: Mesh, out: &mut [u8]) -> Written
     ensures answer { λ r. ⌜ r ≡ written m (length (now (out .entry))) ⌝ }
     ensures output { λ _. ⌜ now (out .exit) ≡ outputAfter m (now (out .entry)) ⌝ }

@@ -4,7 +4,7 @@ use Prim.Native.Nat.{ℕ, _<_, _≤_}
 use mathlib.Core.Path.{_≡_, refl, sym, subst, _∙_}
 use mathlib.Core.Logic.{_↔_}
 use mathlib.Core.List.{List}
-use borrow.Author.Tests.{ltb-true, ltb-false, leb-true, leb-false, lt-ltb, le-leb}
+use borrow.Author.Tests.{ltb-true, ltb-false, leb-true, leb-false, lt-ltb, le-ltb, le-leb, lt-leb}
 use lib.Dec.{ltb, leb}
 use lib.ListN.{length, take, drop}
 use lib.Seq.{take-append-seam, drop-append-seam}
@@ -49,11 +49,20 @@ answered m k room = go (sharingAnswer m k room)
     go (Refused number place) = refl
 
 -- each refusal on its own condition
-pub refused-only : (m : Mesh) (k room number place : ℕ) → shared m k room .answer ≡ Refused number place → Refusal m k room number place
+refused-only : (m : Mesh) (k room number place : ℕ) → shared m k room .answer ≡ Refused number place → Refusal m k room number place
 refused-only m k room number place e = told-refused (subst (Tells (Passed m k room) (Refusal m k room)) (sym (answered m k room) ∙ e) (told m k room))
 
+refused-so : (m : Mesh) (k room number place : ℕ) → Refusal m k room number place → shared m k room .answer ≡ Refused number place
+unfolding sharingAnswer
+refused-so m k room number place (mesh-refused e) = answered m k room ∙ rw e
+refused-so m k room number place (no-such-link e l) = answered m k room ∙ rw (e, le-ltb k (m .count) l)
+refused-so m k room number place (output-short e l s) = answered m k room ∙ rw (e, lt-ltb k (m .count) l, lt-leb _ room s)
+
+pub refuses-exactly : (m : Mesh) (k room number place : ℕ) → (shared m k room .answer ≡ Refused number place) ↔ Refusal m k room number place
+refuses-exactly m k room number place = (refused-only m k room number place, refused-so m k room number place)
+
 -- and it tells of no link
-pub refused-none : (m : Mesh) (k room number place : ℕ) → shared m k room .answer ≡ Refused number place → shared m k room .count ≡ 0
+refused-none : (m : Mesh) (k room number place : ℕ) → shared m k room .answer ≡ Refused number place → shared m k room .count ≡ 0
 unfolding shared
 refused-none m k room number place e =
     let a : sharingAnswer m k room ≡ Refused number place = sym (answered m k room) ∙ e in
@@ -63,7 +72,7 @@ refused-none m k room number place e =
 accepted-only : (m : Mesh) (k room : ℕ) → shared m k room .answer ≡ Accepted → (meshAnswer m ≡ Accepted) × (k < m .count) × (length (sharing m k) ≤ room)
 accepted-only m k room e = told-accepted (subst (Tells (Passed m k room) (Refusal m k room)) (sym (answered m k room) ∙ e) (told m k room))
 
-pub accepts : (m : Mesh) (k room : ℕ) → meshAnswer m ≡ Accepted → k < m .count → length (sharing m k) ≤ room → shared m k room .answer ≡ Accepted
+accepts : (m : Mesh) (k room : ℕ) → meshAnswer m ≡ Accepted → k < m .count → length (sharing m k) ≤ room → shared m k room .answer ≡ Accepted
 unfolding sharingAnswer
 accepts m k room h l r = answered m k room ∙ rw (h, lt-ltb k (m .count) l, le-leb _ room r)
 
@@ -97,7 +106,7 @@ module _ (m : Mesh) (k : ℕ) (out : List ℕ) where
       let a : sharingAnswer m k (length out) ≡ Refused number place = sym (answered m k (length out)) ∙ e in
       rw a
 
-  -- all that a refusal tells
+  -- it counts none, and leaves the output as it was
   pub refusal-told : (number place : ℕ) → shared m k (length out) .answer ≡ Refused number place
-      → Refusal m k (length out) number place × (shared m k (length out) .count ≡ 0) × (outputAfter m k out ≡ out)
-  refusal-told number place e = (refused-only m k (length out) number place e, refused-none m k (length out) number place e, refused-keeps number place e)
+      → (shared m k (length out) .count ≡ 0) × (outputAfter m k out ≡ out)
+  refusal-told number place e = (refused-none m k (length out) number place e, refused-keeps number place e)

@@ -5,6 +5,7 @@ use mathlib.Core.Bool.{Bool, true, _&&_, and-eq-true-iff}
 use mathlib.Core.Logic.{⊎-elim}
 use mathlib.Core.List.{List, [], _∷_, List·Memᴰ, List·Memᴰ·not-nil, List·Memᴰ·cases-cons}
 use Rattle.scan.specs.All.{all}
+use Rattle.scan.specs.Listed.{passing}
 use Rattle.scan.specs.Lowest.{lowest, lowestFrom, any, every}
 use Rattle.graph.specs.Reach.{markWay, markLink, markLinks, rounds, reached, reaches}
 use Rattle.graph.specs.Plan.{connects, unreached, parts, assignments, firstThat, plan}
@@ -25,7 +26,7 @@ use Rattle.refusals.specs.Refusals.{cutAnswer, deliverAnswer, runAnswer, routeA
 use Rattle.recovery.specs.Calls.{started, afterCut, afterDelivery, afterRun, routeOf, routed}
 use Rattle.flood.specs.Topology.{carries, routeFrom}
 use Rattle.history.specs.History.{after}
-use Rattle.guarantees.specs.Bench.{Row, table, turns, turnsOnFirst, passing, takenIn, callsOf, startOf, endOf, Holds}
+use Rattle.guarantees.specs.Bench.{Row, table, turns, turnsOnFirst, takenIn, callsOf, startOf, endOf, Holds}
 use Rattle.guarantees.specs.Laws.Same.{sameDecoded, same-decoded, samePlanned, same-planned, sameNumbers, same-numbers}
 use Rattle.guarantees.specs.Laws.Same.{sameReplies, same-replies, sameRouted, same-routed}
 

@@ -24,7 +24,7 @@ plannedOn a G =
     (padded (orNone (plan G)))
 
 module _ (m m′ : Mesh) (same : SameEnds m m′) (e : meshAnswer m ≡ Accepted) (e′ : meshAnswer m′ ≡ Accepted) where
-  pub net-by-ends : netOf m ≡ netOf m′
+  net-by-ends : netOf m ≡ netOf m′
   net-by-ends = λ j. record {
     nodes = same .nodes j;
     links = same .count j;

@@ -11,11 +11,11 @@ use Rattle.scan.specs.Store.{sets-lent}
 use Rattle.mesh.specs.declared.Link.{Link}
 use Rattle.mesh.specs.declared.Mesh.{Mesh}
 use Rattle.mesh.specs.Mesh.{zeroLink}
-use Rattle.mesh.specs.WellFormed.{link, duct, InRange}
+use Rattle.mesh.specs.WellFormed.{InRange}
 use Rattle.fields.specs.declared.Fields.{Fields}
 use Rattle.fields.specs.Field.{Field, fieldBytes, fieldsBytes, bitMap}
-use Rattle.fields.specs.Record.{asFields, zeroFields, fieldsOf, recordOf}
-use Rattle.fields.specs.Entries.{entriesOf}
+use Rattle.fields.specs.Record.{zeroFields, fieldsOf, recordOf}
+use Rattle.fields.specs.Entries.{entriesOf, entry}
 use Rattle.fields.specs.Laws.Entries.{length-entries, entry-is}
 use Rattle.writer.specs.Written.{version, recordsOf, bookOf}
 use Rattle.scan.specs.Storing.{Storing, storing-all, storing-room, storing-next, storing-end}
@@ -56,10 +56,6 @@ module _ (p : Link) (f : Fields) {out₀ out : List ℕ} {at : ℕ} (S : Storing
   record-stored q = rw (q, storing-end S refl) (set-sets out₀ 1 0 (bitMap (fieldsOf p f)) (fieldsBytes (fieldsOf p f)) (omega arith))
 
 -- ---- the records of a mesh
-
--- link i of m with its duct number
-abbrev pub entry : Mesh → ℕ → Fields
-entry m i = asFields (link m i) (duct m i)
 
 -- the records of the links from i on, after p
 abbrev pub recordsFrom : Link → Mesh → ℕ → List ℕ
