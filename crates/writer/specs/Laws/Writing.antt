@@ -11,7 +11,7 @@ use Rattle.scan.specs.Store.{sets-lent}
 use Rattle.mesh.specs.declared.Link.{Link}
 use Rattle.mesh.specs.declared.Mesh.{Mesh}
 use Rattle.mesh.specs.Mesh.{zeroLink}
-use Rattle.mesh.specs.WellFormed.{InRange}
+use Rattle.mesh.specs.WellFormed.{link, InRange}
 use Rattle.fields.specs.declared.Fields.{Fields}
 use Rattle.fields.specs.Field.{Field, fieldBytes, fieldsBytes, bitMap}
 use Rattle.fields.specs.Record.{zeroFields, fieldsOf, recordOf}
