@@ -27,7 +27,7 @@ use Rattle.fields.specs.Record.{recordOf}
 use Rattle.writer.specs.Written.{bookOf, longestBook}
 use Rattle.writer.specs.Laws.Writing.{recordsFrom, records-end, length-records-next, record-room, record-next, header-stored}
 use Rattle.writer.specs.Laws.Length.{length-book, book-within, fits, write-refused, write-short, write-done}
-use Rattle.writer.proofs.Ranges.{in-range}
+use Rattle.mesh.proofs.Ranges.{in-range}
 use Rattle.writer.proofs.write_book.Statement.{statement}
 use Rattle.writer.proofs.write_book.Tie as tie
 

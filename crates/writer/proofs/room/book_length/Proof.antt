@@ -8,7 +8,7 @@ use Rattle.fields.specs.Record.{longestRecord}
 use Rattle.writer.specs.Written.{bookOf}
 use Rattle.writer.specs.Laws.Writing.{recordsFrom, records-end, length-records-next}
 use Rattle.writer.specs.Laws.Length.{length-book}
-use Rattle.writer.proofs.Ranges.{in-range}
+use Rattle.mesh.proofs.Ranges.{in-range}
 use Rattle.writer.proofs.room.book_length.Statement.{statement}
 use Rattle.writer.proofs.room.book_length.Tie as tie
 
