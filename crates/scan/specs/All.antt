@@ -1,12 +1,13 @@
--- Whether every element of a list passes a test, and the loop that looks at each. Assumes nothing.
-use Prim.Native.Nat.{ℕ, zero, suc, _+_, _≤_, _<_}
+-- Whether every element of a list passes a test. Assumes nothing.
+use Prim.Native.Nat.{ℕ, zero, suc, _+_, _-_, _≤_, _<_}
 use mathlib.Core.Path.{_≡_, refl, sym, _∙_}
 use mathlib.Core.Logic.{⊎-elim}
 use mathlib.Core.Bool.{Bool, true, false, _&&_, and-eq-true-iff}
 use mathlib.Core.List.{List, [], _∷_}
 use native.Mathlib.Numerals.{add-one}
-use lib.ListN.{length, getD, drop, replicate, drop-of-length-le}
-use lib.Seq.{drop-cons}
+use native.Mathlib.Omega.{arith}
+use lib.ListN.{length, getD, drop, replicate}
+use lib.Seq.{getD-drop, drop-cons}
 use Rattle.scan.specs.Test.{clash, known}
 
 -- every element passes
@@ -16,14 +17,14 @@ all p (a ∷ l) = p a && all p l
 
 module _ {A : Type 0} (p : A → Bool) where
   -- each element passes, also one past the end that does
-  pub all-each : (a : A) → p a ≡ true → (l : List A) → all p l ≡ true → (i : ℕ) → p (getD l i a) ≡ true
+  all-each : (a : A) → p a ≡ true → (l : List A) → all p l ≡ true → (i : ℕ) → p (getD l i a) ≡ true
   unfolding all
   all-each a t [] e i = t
   all-each a t (b ∷ l) e zero = and-eq-true-iff (p b) (all p l) .0 e .0
   all-each a t (b ∷ l) e (suc i) = all-each a t l (and-eq-true-iff (p b) (all p l) .0 e .1) i
 
   -- one does not
-  pub all-fails : (a : A) (l : List A) → all p l ≡ false → (i : ℕ) × (p (getD l i a) ≡ false)
+  all-fails : (a : A) (l : List A) → all p l ≡ false → (i : ℕ) × (p (getD l i a) ≡ false)
   unfolding all
   all-fails a [] f = clash refl f
   all-fails a (b ∷ l) f =
@@ -43,17 +44,22 @@ module _ {A : Type 0} (p : A → Bool) where
   all-replicate zero a t = refl
   all-replicate (suc n) a t = rw t (all-replicate n a t)
 
-  module _ (l : List A) (i : ℕ) where
-    pub all-step : (a : A) → i < length l → all p (drop i l) ≡ (p (getD l i a) && all p (drop (i + 1) l))
-    unfolding all
-    all-step a h = rw (drop-cons l i a h, add-one i)
+  -- element i, then those after it
+  pub all-step : (l : List A) (i : ℕ) (a : A) → i < length l → all p (drop i l) ≡ (p (getD l i a) && all p (drop (i + 1) l))
+  unfolding all
+  all-step l i a h = rw (drop-cons l i a h, add-one i)
 
-    -- element i is looked at, or there is none; b says whether those before it pass
-    pub all-next : (a : A) (b : Bool) → i < length l → (b && all p (drop i l)) ≡ ((b && p (getD l i a)) && all p (drop (i + 1) l))
-    all-next a true h = all-step a h
-    all-next a false h = refl
+  -- ---- of the elements from element k on
 
-    pub all-end : (b : Bool) → length l ≤ i → (b && all p (drop i l)) ≡ b
-    unfolding all
-    all-end true h = rw (drop-of-length-le l h)
-    all-end false h = refl
+  module _ (a : A) (l : List A) (k : ℕ) where
+    -- where all pass each does, also one past the end that does
+    pub all-drop-each : p a ≡ true → all p (drop k l) ≡ true → (i : ℕ) → k ≤ i → p (getD l i a) ≡ true
+    all-drop-each t e i h = let s : k + (i - k) ≡ i = omega arith in rw (getD-drop, s) at (all-each a t (drop k l) e (i - k))
+
+    -- where not all do one does not
+    pub all-drop-fails : all p (drop k l) ≡ false → (i : ℕ) × (k ≤ i) × (p (getD l i a) ≡ false)
+    all-drop-fails e = let (i, f) = all-fails a (drop k l) e in (k + i, omega arith, rw getD-drop at f)
+
+    -- where each does all do
+    pub all-drop : ((i : ℕ) → k ≤ i → p (getD l i a) ≡ true) → all p (drop k l) ≡ true
+    all-drop h = ⊎-elim (λ e. e) (λ e. let (i, b, f) = all-drop-fails e in clash (h i b) f) (known (all p (drop k l)))

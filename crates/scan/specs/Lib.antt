@@ -14,3 +14,4 @@ pub mod Store
 pub mod Storing
 pub mod Bytes
 pub mod Bits
+pub mod Joining

@@ -10,7 +10,7 @@ use lib.ListN.{length, getD, take, drop, length-take}
 use lib.Seq.{getD-take, getD-drop}
 use borrow.Author.Tests.{leb-true, leb-false}
 use Rattle.scan.specs.Test.{branch, known, fails, Says, eq-says, le-says, and-says}
-use Rattle.scan.specs.All.{all, all-each, all-fails}
+use Rattle.scan.specs.All.{all-drop-each, all-drop-fails}
 use Rattle.mesh.specs.declared.Link.{Link}
 use Rattle.mesh.specs.declared.Mesh.{Mesh}
 use Rattle.mesh.specs.declared.Answer.{Answer}
@@ -90,13 +90,13 @@ not-zero m d = ⊎-elim numbers entries (known (allZero (drop (m .count) (m .lin
   where
     entries : allZero (drop (m .count) (m .links)) ≡ false → Refusal m 13 0
     entries e =
-        let (i, z) = all-fails isZero zeroLink (drop (m .count) (m .links)) e in
-        entry-not-zero (m .count + i) (omega arith) (rw getD-drop at (fails (zero-says (getD (drop (m .count) (m .links)) i zeroLink)) z))
+        let (i, h, z) = all-drop-fails isZero zeroLink (m .links) (m .count) e in
+        entry-not-zero i h (fails (zero-says (link m i)) z)
 
     numbers : allZero (drop (m .count) (m .links)) ≡ true → Refusal m 13 0
     numbers e =
-        let (i, z) = all-fails (λ v. eqb v 0) 0 (drop (m .count) (m .ducts)) (second-fails _ _ d e) in
-        duct-not-zero (m .count + i) (omega arith) (rw getD-drop at (fails (eq-says (getD (drop (m .count) (m .ducts)) i 0) 0) z))
+        let (i, h, z) = all-drop-fails (λ v. eqb v 0) 0 (m .ducts) (m .count) (second-fails _ _ d e) in
+        duct-not-zero i h (fails (eq-says (duct m i) 0) z)
 
 pub mesh-told : (m : Mesh) → Tells (Sound m) (Refusal m) (meshAnswer m)
 unfolding meshAnswer
@@ -110,8 +110,8 @@ mesh-told m =
       nodes = nodes-says (m .nodes) .0 a;
       count = leb-true _ _ b;
       faultless = λ i h l. good-taken m i h _ (simp length-take (omega arith)) c;
-      zeros = λ i h. zero-says (link m i) .0 (past isZero zeroLink refl (m .links) e i h);
-      ductless = λ i h. eq-says (duct m i) 0 .0 (past (λ v. eqb v 0) 0 refl (m .ducts) f i h);
+      zeros = λ i h. zero-says (link m i) .0 (all-drop-each isZero zeroLink (m .links) (m .count) refl e i h);
+      ductless = λ i h. eq-says (duct m i) 0 .0 (all-drop-each (λ v. eqb v 0) 0 (m .ducts) (m .count) refl f i h);
     }))
     (λ d. refusing (not-zero m d)))
     fault)
@@ -120,10 +120,6 @@ mesh-told m =
   where
     Told : Answer → Type 0
     Told = Tells (Sound m) (Refusal m)
-
-    -- where all from the count on pass, each does
-    past : {A : Type 0} (p : A → Bool) (z : A) → p z ≡ true → (l : List A) → all p (drop (m .count) l) ≡ true → (i : ℕ) → m .count ≤ i → p (getD l i z) ≡ true
-    past p z t l e i h = let s : m .count + (i - m .count) ≡ i = omega arith in rw (getD-drop, s) at (all-each p z t (drop (m .count) l) e (i - m .count))
 
     fault : (number place : ℕ) → FirstFault (m .nodes) zeroLink 0 (take (m .count) (m .links)) number place → Refusal m number place
     fault number place r =

@@ -13,7 +13,7 @@ use lib.ListN.{length, getD, drop, length-map, List·getD-map, List·getD-eq-def
 use lib.Seq.{getD-drop}
 use borrow.Author.Tests.{ltb-false, lt-ltb, le-ltb}
 use Rattle.scan.specs.Test.{clash, known, fails, or-false, Says, eq-says, and-says}
-use Rattle.scan.specs.All.{all, all-fails}
+use Rattle.scan.specs.All.{all-drop}
 use Rattle.scan.specs.Entry.{replicate-at}
 use Rattle.scan.specs.Lowest.{every-says, every-fails}
 use Rattle.scan.specs.Fill.{tableOf}
@@ -67,13 +67,6 @@ rest-fails m e =
     let (l, z) = or-false (ltb i (m .count)) (isZero (old.link m i)) f in
     (i, ltb-false i (m .count) l, fails (zero-says (old.link m i)) z)
 
--- where each entry from k on passes a test, all of these do
-rest-passes : {A : Type 0} (p : A → Bool) (a : A) (l : List A) (k : ℕ) → ((i : ℕ) → k ≤ i → p (getD l i a) ≡ true) → all p (drop k l) ≡ true
-rest-passes p a l k h =
-    ⊎-elim (λ e. e)
-    (λ e. let (i, f) = all-fails p a (drop k l) e in clash (h (k + i) (omega arith)) (rw getD-drop at f))
-    (known (all p (drop k l)))
-
 module _ (m : OldMesh) (sized : length (m .links) ≡ 256) where
   -- all are zero, and what stands past the end of the list is
   pub rest-says : Says (restZero m) ((i : ℕ) → m .count ≤ i → old.link m i ≡ zeroLink)
@@ -93,9 +86,9 @@ module _ (m : OldMesh) (sized : length (m .links) ≡ 256) where
   rest-carried : restZero m ≡ true → parts.restZero (meshOf m) ≡ true
   rest-carried t =
       and-eq-true-iff _ _ .1 (
-        rest-passes current.isZero current.zeroLink (meshOf m .links) (m .count)
+        all-drop current.isZero current.zeroLink (meshOf m .links) (m .count)
             (λ i h. zeros.zero-says (link (meshOf m) i) .1 (link-carried m i ∙ ap linkOf (rest-says .0 t i h))),
-        rest-passes (λ d. eqb d 0) 0 (meshOf m .ducts) (m .count) (λ i h. rw (no-duct m i)),
+        all-drop (λ d. eqb d 0) 0 (meshOf m .ducts) (m .count) (λ i h. rw (no-duct m i)),
       )
 
 -- ---- the checks

@@ -2,27 +2,27 @@
 -- zero just where those before i were and those from i on are, and the third the same of the duct numbers; the last that the records from link k on,
 -- after prev, are left to store from `at` on.
 use Prim.Native.Nat.{ℕ, _+_, _-_, _≤_, _<_, min}
-use mathlib.Core.Path.{_≡_, sym, ap, _∙_}
-use mathlib.Core.Bool.{Bool, _&&_}
+use mathlib.Core.Path.{_≡_, refl, sym, ap, _∙_}
+use mathlib.Core.Bool.{_&&_}
 use native.Mathlib.Omega.{arith}
 use borrow.Author.Needs.{needs}
 use borrow.Author.Tests.{leb-true}
 use lib.Dec.{eqb}
-use lib.ListN.{length, drop, replicate, length-drop}
+use lib.ListN.{length, replicate, length-drop}
 use denote.Ref.{now}
-use Rattle.scan.specs.All.{all-next, all-end}
-use Rattle.scan.specs.Bits.{or-zero}
 use Rattle.scan.specs.Entry.{at}
 use Rattle.scan.specs.Fill.{filled}
-use Rattle.scan.specs.Part.{drop-min, part-rest}
+use Rattle.scan.specs.Joining.{Joined, joined-none, joined-turn}
+use Rattle.scan.specs.Part.{part-rest}
 use Rattle.scan.specs.Storing.{Storing, storing-all, storing-last, storing-end}
 use Rattle.scan.specs.Sweep.{sweep-none, sweep-turn}
 use Rattle.mesh.specs.declared.Answer.the-variants.{Accepted}
-use Rattle.mesh.specs.Mesh.{zeroLink, isZero, allZero, ductless, restZero, meshAnswer}
+use Rattle.mesh.specs.Mesh.{zeroLink, isZero, restZero, meshAnswer}
 use Rattle.mesh.specs.WellFormed.{link}
 use Rattle.mesh.specs.Parts.{endsOf, endsIn, partsAnswer}
 use Rattle.mesh.specs.Laws.GoodMesh.{mesh-accepted}
 use Rattle.mesh.specs.Laws.Parts.{ends-in, parts-answer}
+use Rattle.mesh.specs.Laws.Zeros.{rest-joined}
 use Rattle.fields.specs.Record.{recordOf}
 use Rattle.writer.specs.Written.{bookOf, longestBook}
 use Rattle.writer.specs.Laws.Writing.{recordsFrom, records-end, length-records-next, record-room, record-next, header-stored}
@@ -38,13 +38,13 @@ abbrev μ-loop : tie.MeasureT-loop
 μ-loop out m links ends₀ i₀ ends i = links - i
 
 abbrev Inv-loop2 : tie.InvT-loop2
-Inv-loop2 out m links ends i₀ bits₀ i bits = (i ≤ 256) × (allZero (drop (m .count) (m .links)) ≡ (eqb bits 0 && allZero (drop i (m .links))))
+Inv-loop2 out m links ends i₀ bits₀ i bits = (i ≤ 256) × Joined isZero (m .links) (m .count) i bits
 
 abbrev μ-loop2 : tie.MeasureT-loop2
 μ-loop2 out m links ends i₀ bits₀ i bits = 256 - i
 
 abbrev Inv-loop3 : tie.InvT-loop3
-Inv-loop3 out m links ends i bits ducts₀ j₀ ducts j = (j ≤ 256) × (ductless (drop (m .count) (m .ducts)) ≡ (eqb ducts 0 && ductless (drop j (m .ducts))))
+Inv-loop3 out m links ends i bits ducts₀ j₀ ducts j = (j ≤ 256) × Joined (λ d. eqb d 0) (m .ducts) (m .count) j ducts
 
 abbrev μ-loop3 : tie.MeasureT-loop3
 μ-loop3 out m links ends i bits ducts₀ j₀ ducts j = 256 - j
@@ -62,9 +62,6 @@ abbrev μ-loop4 : tie.MeasureT-loop4
 abbrev start : tie.After-parts-answer Inv-loop μ-loop Inv-loop2 μ-loop2 Inv-loop3 μ-loop3 Inv-loop4 μ-loop4 → tie.Start Inv-loop μ-loop Inv-loop2 μ-loop2 Inv-loop3 μ-loop3 Inv-loop4 μ-loop4
 start c = c .before .before .before .before .before .before .before .before .before .before
 
-and-same : {a b c d : Bool} → a ≡ c → b ≡ d → (a && b) ≡ (c && d)
-and-same e f = λ j. e j && f j
-
 module _ (c : tie.After-parts-answer Inv-loop μ-loop Inv-loop2 μ-loop2 Inv-loop3 μ-loop3 Inv-loop4 μ-loop4) where
   zeros : (eqb (c .before .before .before .before .before .loop2 .bits) 0 && eqb (c .before .before .before .loop3 .ducts) 0) ≡ restZero (start c .args .t1)
   zeros =
@@ -72,10 +69,9 @@ module _ (c : tie.After-parts-answer Inv-loop μ-loop Inv-loop2 μ-loop2 Inv-loo
       let second = third .before .before in
       let m = start c .args .t1 in
       let sized = in-range m _ (start c .good .0) in
-      sym
-      (and-same
-      (second .loop2 .inv .1 ∙ all-end isZero (m .links) (second .loop2 .i) (eqb (second .loop2 .bits) 0) (omega (arith, sized .entries, c .before .before .before .before .loop2-test .left)))
-      (third .loop3 .inv .1 ∙ all-end (λ v. eqb v 0) (m .ducts) (third .loop3 .j) (eqb (third .loop3 .ducts) 0) (omega (arith, sized .numbers, c .before .before .loop3-test .left))))
+      rest-joined m (second .loop2 .i) (second .loop2 .bits) (third .loop3 .j) (third .loop3 .ducts)
+      (second .loop2 .inv .1) (omega (arith, sized .entries, c .before .before .before .before .loop2-test .left))
+      (third .loop3 .inv .1) (omega (arith, sized .numbers, c .before .before .loop3-test .left))
 
   ends : c .before .before .before .before .before .before .before .loop .ends ≡ endsIn (start c .args .t1)
   ends =
@@ -199,7 +195,7 @@ loop2-holds c =
     let s = l .before .before .before in
     let m = s .args .t1 in
     let sized = in-range m _ (s .good .0) .entries in
-    (omega arith, ap allZero (drop-min (m .links) (m .count) (l .loop .i) (omega (arith, l .before .lower .ensures))))
+    (omega arith, joined-none isZero (m .links) (m .count) (l .loop .i) (omega (arith, l .before .lower .ensures)))
 
 mul-l-2 : tie.Need-mul-l-2 Inv-loop μ-loop Inv-loop2 μ-loop2 Inv-loop3 μ-loop3 Inv-loop4 μ-loop4
 mul-l-2 c = search needs
@@ -222,18 +218,15 @@ loop2-again c =
     let s = l .before .before .before .before .before in
     let m = s .args .t1 in
     let lo = l .loop2 in
-    let sized = in-range m _ (s .good .0) .entries in (
-      omega arith,
-      rw (or-zero (lo .bits) (c .bits-of .result), c .bits-of .ensures)
-          (lo .inv .1 ∙ all-next isZero (m .links) (lo .i) zeroLink (eqb (lo .bits) 0) (omega arith)),
-    )
+    let sized = in-range m _ (s .good .0) .entries in
+    (omega arith, joined-turn isZero (m .links) (m .count) zeroLink (lo .i) (lo .bits) (c .bits-of .result) (lo .inv .1) (omega arith) (c .bits-of .ensures))
 
 loop3-holds : tie.Need-loop3-holds Inv-loop μ-loop Inv-loop2 μ-loop2 Inv-loop3 μ-loop3 Inv-loop4 μ-loop4
 loop3-holds c =
     let s = c .before .before .before .before in
     let m = s .before .before .args .t1 in
     let sized = in-range m _ (s .before .before .good .0) .numbers in
-    (omega arith, ap ductless (drop-min (m .ducts) (m .count) (s .lower .result) (omega (arith, s .lower .ensures))))
+    (omega arith, joined-none (λ d. eqb d 0) (m .ducts) (m .count) (s .lower .result) (omega (arith, s .lower .ensures)))
 
 mul-ducts : tie.Need-mul-ducts Inv-loop μ-loop Inv-loop2 μ-loop2 Inv-loop3 μ-loop3 Inv-loop4 μ-loop4
 mul-ducts c = search needs
@@ -253,11 +246,8 @@ loop3-again c =
     let s = l .before .before .before .before .before .before .before in
     let m = s .args .t1 in
     let lo = l .loop3 in
-    let sized = in-range m _ (s .good .0) .numbers in (
-      omega arith,
-      rw (or-zero (lo .ducts) (at (m .ducts) (lo .j)))
-          (lo .inv .1 ∙ all-next (λ v. eqb v 0) (m .ducts) (lo .j) 0 (eqb (lo .ducts) 0) (omega arith)),
-    )
+    let sized = in-range m _ (s .good .0) .numbers in
+    (omega arith, joined-turn (λ d. eqb d 0) (m .ducts) (m .count) 0 (lo .j) (lo .ducts) (at (m .ducts) (lo .j)) (lo .inv .1) (omega arith) refl)
 
 parts-answer-requires : tie.Need-parts-answer-requires Inv-loop μ-loop Inv-loop2 μ-loop2 Inv-loop3 μ-loop3 Inv-loop4 μ-loop4
 parts-answer-requires c κs = search needs

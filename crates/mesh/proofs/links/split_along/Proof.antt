@@ -2,24 +2,23 @@
 -- all entries past the last link are zero just where those before i were and those from i on are, and the third the same of the duct numbers; the fourth
 -- the sum of the first k listed lengths, and whether one of them is 0.
 use Prim.Native.Nat.{ℕ, _-_, _≤_, min}
-use mathlib.Core.Path.{_≡_, sym, ap, _∙_}
-use mathlib.Core.Bool.{Bool, true, _&&_}
+use mathlib.Core.Path.{_≡_, refl, sym, ap, _∙_}
+use mathlib.Core.Bool.{true}
 use native.Mathlib.Omega.{arith}
 use lib.Dec.{eqb}
-use lib.ListN.{drop}
 use borrow.Author.Needs.{needs}
-use Rattle.scan.specs.All.{all-next, all-end}
 use Rattle.scan.specs.Entry.{at}
-use Rattle.scan.specs.Bits.{or-zero}
+use Rattle.scan.specs.Joining.{Joined, joined-none, joined-turn}
 use Rattle.scan.specs.Sweep.{sweep-none, sweep-turn}
 use Rattle.scan.specs.Fill.{filled}
 use Rattle.scan.specs.Part.{drop-min}
 use Rattle.metres.specs.Length.{lengthOf}
 use Rattle.metres.specs.Laws.Summing.{Summed, summed-none, summed-turn, summed-all}
-use Rattle.mesh.specs.Mesh.{zeroLink, isZero, allZero, ductless}
+use Rattle.mesh.specs.Mesh.{zeroLink, isZero, allZero}
 use Rattle.mesh.specs.WellFormed.{link, lengths}
 use Rattle.mesh.specs.Parts.{endsOf}
 use Rattle.mesh.specs.Laws.Links.{zero-even}
+use Rattle.mesh.specs.Laws.Zeros.{rest-joined}
 use Rattle.mesh.specs.Laws.Lengths.{lengths-most}
 use Rattle.mesh.proofs.Ranges.{entries-are, numbers-are, in-range}
 use Rattle.mesh.proofs.links.split_along.Statement.{statement}
@@ -32,13 +31,13 @@ abbrev μ-loop : tie.MeasureT-loop
 μ-loop ends₀ row n m links i₀ ends i = links - i
 
 abbrev Inv-loop2 : tie.InvT-loop2
-Inv-loop2 ends row n m links i₀ bits₀ i bits = (i ≤ 256) × (allZero (drop (m .count) (m .links)) ≡ (eqb bits 0 && allZero (drop i (m .links))))
+Inv-loop2 ends row n m links i₀ bits₀ i bits = (i ≤ 256) × Joined isZero (m .links) (m .count) i bits
 
 abbrev μ-loop2 : tie.MeasureT-loop2
 μ-loop2 ends row n m links i₀ bits₀ i bits = 256 - i
 
 abbrev Inv-loop3 : tie.InvT-loop3
-Inv-loop3 ends row n m links i bits ducts₀ j₀ ducts j = (j ≤ 256) × (ductless (drop (m .count) (m .ducts)) ≡ (eqb ducts 0 && ductless (drop j (m .ducts))))
+Inv-loop3 ends row n m links i bits ducts₀ j₀ ducts j = (j ≤ 256) × Joined (λ d. eqb d 0) (m .ducts) (m .count) j ducts
 
 abbrev μ-loop3 : tie.MeasureT-loop3
 μ-loop3 ends row n m links i bits ducts₀ j₀ ducts j = 256 - j
@@ -56,9 +55,6 @@ from3 l = l .before .before .before .before .before .before .before .before .bef
 
 abbrev from4 : tie.At-loop4 Inv-loop μ-loop Inv-loop2 μ-loop2 Inv-loop3 μ-loop3 Inv-loop4 μ-loop4 → tie.Start Inv-loop μ-loop Inv-loop2 μ-loop2 Inv-loop3 μ-loop3 Inv-loop4 μ-loop4
 from4 l = from3 (l .before .before .before)
-
-and-same : {a b c d : Bool} → a ≡ c → b ≡ d → (a && b) ≡ (c && d)
-and-same e f = λ j. e j && f j
 
 cast-lower : tie.Need-cast-lower Inv-loop μ-loop Inv-loop2 μ-loop2 Inv-loop3 μ-loop3 Inv-loop4 μ-loop4
 cast-lower c = search needs
@@ -146,13 +142,13 @@ loop2-again c =
     let a = start .args .t1 in
     let lo = l .loop2 in
     let sized = entries-are a _ (start .good .0) in
-    (omega arith, rw (or-zero (lo .bits) (c .bits-of .result), c .bits-of .ensures) (lo .inv .1 ∙ all-next isZero (a .links) (lo .i) zeroLink (eqb (lo .bits) 0) (omega arith)))
+    (omega arith, joined-turn isZero (a .links) (a .count) zeroLink (lo .i) (lo .bits) (c .bits-of .result) (lo .inv .1) (omega arith) (c .bits-of .ensures))
 
 loop3-holds : tie.Need-loop3-holds Inv-loop μ-loop Inv-loop2 μ-loop2 Inv-loop3 μ-loop3 Inv-loop4 μ-loop4
 loop3-holds c =
     let s = c .before .before .before .before .before .before .before in
     let a = s .before .args .t1 in
-    (omega arith, ap ductless (drop-min (a .ducts) (a .count) (s .lower .result) (omega (arith, s .lower .ensures, numbers-are a _ (s .before .good .0)))))
+    (omega arith, joined-none (λ d. eqb d 0) (a .ducts) (a .count) (s .lower .result) (omega (arith, s .lower .ensures, numbers-are a _ (s .before .good .0))))
 
 mul-ducts : tie.Need-mul-ducts Inv-loop μ-loop Inv-loop2 μ-loop2 Inv-loop3 μ-loop3 Inv-loop4 μ-loop4
 mul-ducts c = search needs
@@ -173,7 +169,7 @@ loop3-again c =
     let a = start .args .t1 in
     let lo = l .loop3 in
     let sized = numbers-are a _ (start .good .0) in
-    (omega arith, rw (or-zero (lo .ducts) (at (a .ducts) (lo .j))) (lo .inv .1 ∙ all-next (λ v. eqb v 0) (a .ducts) (lo .j) 0 (eqb (lo .ducts) 0) (omega arith)))
+    (omega arith, joined-turn (λ d. eqb d 0) (a .ducts) (a .count) 0 (lo .j) (lo .ducts) (at (a .ducts) (lo .j)) (lo .inv .1) (omega arith) refl)
 
 lower-requires-3 : tie.Need-lower-requires-3 Inv-loop μ-loop Inv-loop2 μ-loop2 Inv-loop3 μ-loop3 Inv-loop4 μ-loop4
 lower-requires-3 c κs = search needs
@@ -234,10 +230,8 @@ returns c =
     let sized = entries-are (a .t1) _ (start .good .0) in
     let all : first .loop .i ≡ min (a .t1 .count) 256 = omega arith in
     let every : l .loop4 .k ≡ min (a .n) 256 = omega (arith, l .before .lower3 .ensures) in (
-      sym
-          (and-same
-          (second .loop2 .inv .1 ∙ all-end isZero (a .t1 .links) (second .loop2 .i) (eqb (second .loop2 .bits) 0) (omega arith))
-          (third .loop3 .inv .1 ∙ all-end (λ v. eqb v 0) (a .t1 .ducts) (third .loop3 .j) (eqb (third .loop3 .ducts) 0) (omega (arith, numbers-are (a .t1) _ (start .good .0))))),
+      rest-joined (a .t1) (second .loop2 .i) (second .loop2 .bits) (third .loop3 .j) (third .loop3 .ducts) (second .loop2 .inv .1) (omega arith) (third .loop3 .inv .1)
+          (omega (arith, numbers-are (a .t1) _ (start .good .0))),
       (
         first .loop .inv .1 ∙ ap (λ (n : ℕ). filled (λ j. endsOf (link (a .t1) j)) n (a .ends .now)) all,
         (
