@@ -28,6 +28,13 @@ pub struct Written {
     pub answer: Answer,
 }
 
+fn refused(answer: Answer) -> Written
+    ensures length { λ r. ⌜ r .length ≡ 0 ⌝ }
+    ensures answer { λ r. ⌜ r .answer ≡ answer ⌝ }
+{
+    Written { length: 0, answer }
+}
+
 // Stores the book of m at the front of out: the mesh checks, then 11. Bytes past the book stay as they were, and all of out on a refusal. The loops of
 // the checks stand here as in `mesh::split_along`, and so does that over the records: a mesh is copied for each function that takes it.
 pub fn write_book(m: Mesh, out: &mut [u8]) -> Written
@@ -56,21 +63,14 @@ pub fn write_book(m: Mesh, out: &mut [u8]) -> Written
     }
     let a = mesh::parts_answer(m.nodes, m.count, (bits == 0) & (ducts == 0), &ends);
     let Answer::Accepted = a else {
-        return Written {
-            length: 0,
-            answer: a,
-        };
+        return refused(a);
     };
     let needed = lacking(m, out.len());
     if 0 < needed {
-        let short = Answer::Refused {
+        return refused(Answer::Refused {
             number: 11,
             place: needed,
-        };
-        return Written {
-            length: 0,
-            answer: short,
-        };
+        });
     }
     let mut at = put_header(out, m.nodes, m.count);
     let mut prev = zero_link();

@@ -258,21 +258,29 @@ enum-told c = search needs
 enum-told-2 : tie.Need-enum-told-2 Inv-loop μ-loop Inv-loop2 μ-loop2 Inv-loop3 μ-loop3 Inv-loop4 μ-loop4
 enum-told-2 c = search needs
 
+refused-requires : tie.Need-refused-requires Inv-loop μ-loop Inv-loop2 μ-loop2 Inv-loop3 μ-loop3 Inv-loop4 μ-loop4
+refused-requires c κs = search needs
+
 returns : tie.Need-returns Inv-loop μ-loop Inv-loop2 μ-loop2 Inv-loop3 μ-loop3 Inv-loop4 μ-loop4
 returns c =
-    let p = c .before .before in
+    let p = c .before .before .before in
     let a = start p .args in
-    write-refused (a .t1) (now (a .out)) (p .parts-answer .result) (answered p) (c .enum-told2 .given .1)
+    let told = c .before .enum-told2 .given .1 in
+    write-refused (a .t1) (now (a .out)) (c .refused .result) (sym (answered p) ∙ told) (c .refused .ensures .0) (c .refused .ensures .1 ∙ told)
 
 lacking-requires : tie.Need-lacking-requires Inv-loop μ-loop Inv-loop2 μ-loop2 Inv-loop3 μ-loop3 Inv-loop4 μ-loop4
 lacking-requires c κs = few c
 
+refused-requires-2 : tie.Need-refused-requires-2 Inv-loop μ-loop Inv-loop2 μ-loop2 Inv-loop3 μ-loop3 Inv-loop4 μ-loop4
+refused-requires-2 c κs = search needs
+
 returns-2 : tie.Need-returns-2 Inv-loop μ-loop Inv-loop2 μ-loop2 Inv-loop3 μ-loop3 Inv-loop4 μ-loop4
 returns-2 c =
-    let l = c .before in
+    let l = c .before .before in
     let e = l .before in
     let a = start (e .before .before) .args in
-    write-short (a .t1) (now (a .out)) (accepted e) (l .lacking .result) (l .lacking .ensures) (c .if1 .taken)
+    write-short (a .t1) (now (a .out)) (accepted e) (l .lacking .result) (l .lacking .ensures) (c .before .if1 .taken)
+    (c .refused2 .result) (c .refused2 .ensures .0) (c .refused2 .ensures .1)
 
 put-header-requires : tie.Need-put-header-requires Inv-loop μ-loop Inv-loop2 μ-loop2 Inv-loop3 μ-loop3 Inv-loop4 μ-loop4
 put-header-requires c κs = omega (arith, room (c .before), length-book (begun (c .before) .args .t1))
@@ -387,8 +395,10 @@ write-book-spec =
     parts-answer-requires
     enum-told
     enum-told-2
+    refused-requires
     returns
     lacking-requires
+    refused-requires-2
     returns-2
     put-header-requires
     zero-link-requires

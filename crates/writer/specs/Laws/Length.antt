@@ -60,19 +60,18 @@ Writes m out r after = (r ≡ written m (length out)) × (after ≡ outputAfter 
 
 module _ (m : Mesh) (out : List ℕ) where
   -- the mesh is refused
-  pub write-refused : (a : Answer) {number place : ℕ} → a ≡ meshAnswer m → a ≡ Refused number place
-      → Writes m out (record { length = 0; answer = a }) out
+  pub write-refused : (r : Written) {number place : ℕ} → meshAnswer m ≡ Refused number place → r .length ≡ 0 → r .answer ≡ Refused number place → Writes m out r out
   unfolding written outputAfter encodeAnswer
-  write-refused a {number} {place} e r = let h : meshAnswer m ≡ Refused number place = sym e ∙ r in (rw (h, r), rw h)
+  write-refused r h e a = ((λ j. record { length = e j; answer = a j }) ∙ rw h, rw h)
 
   module _ (h : meshAnswer m ≡ Accepted) (n : ℕ) (q : n ≡ lacking m (length out)) where
     -- the output is short
-    pub write-short : 0 < n → Writes m out (record { length = 0; answer = Refused 11 n }) out
+    pub write-short : 0 < n → (r : Written) → r .length ≡ 0 → r .answer ≡ Refused 11 n → Writes m out r out
     unfolding written outputAfter encodeAnswer
-    write-short l =
+    write-short l r e a =
         let (less, size) = lacks m (length out) n q l in
         let short = lt-leb _ _ less in
-        (rw (h, short, size), rw (h, short))
+        ((λ j. record { length = e j; answer = a j }) ∙ rw (h, short, size), rw (h, short))
 
     -- the book is stored
     pub write-done : n ≤ 0 → (at : ℕ) → at ≡ length (bookOf m) → {after : List ℕ} → after ≡ sets out 0 (bookOf m)
