@@ -1,39 +1,20 @@
 -- What owning a mesh tells of its fields: they are in the ranges of their types, and there are 256 entries. Assumes nothing.
-use Prim.Native.Nat.{ℕ, zero, suc, _<_}
+use Prim.Native.Nat.{_<_}
 use mathlib.Core.Path.{_≡_}
-use mathlib.Core.List.{List, [], _∷_, map}
-use lib.ListN.{length, getD}
+use mathlib.Core.List.{List}
+use lib.ListN.{length}
 use mir.Val.{Val}
 use denote.Laws.{Is}
-use denote.Shadow.{shadow}
-use denote.Array.{each}
 use denote.Struct.Field.{u16-field}
 use lib.Dec.{lit<}
-use Rattle.scan.specs.Entry.{at}
+use Rattle.scan.specs.Owned.{each-tells}
 use Rattle.scan.specs.Part.{length-mapped}
-use Rattle.mesh.specs.declared.Link.{Link}
 use Rattle.mesh.specs.declared.Mesh.{Mesh}
 use Rattle.mesh.specs.Mesh.{zeroLink}
 use Rattle.mesh.specs.WellFormed.{LinkInRange, InRange}
 use Rattle.mesh.specs.Laws.Zeros.{zero-in-range}
 use Rattle.mesh.proofs.Link as linkType
 use Rattle.mesh.proofs.Mesh as meshType
-
-each-in-range : (ls : List Link) (us : List Val)
-    → shadow (each (linkType.the-field .row .Denot) (linkType.the-field .row .own) (map (linkType.struct .as-values) ls) us)
-    → (i : ℕ) → LinkInRange (getD ls i zeroLink)
-each-in-range [] us q i = zero-in-range
-each-in-range (l ∷ ls) [] q i = absurd q
-each-in-range (l ∷ ls) (u ∷ us) q zero =
-    let f = q .0 .1 .1 in
-    record { low = f .0 .1; high = f .1 .0 .1; length = f .1 .1 .0 .1; pair = f .1 .1 .1 .0 .1 }
-each-in-range (l ∷ ls) (u ∷ us) q (suc i) = each-in-range ls us (q .1) i
-
-numbers-in-range : (ds : List ℕ) (us : List Val) → shadow (each (u16-field .row .Denot) (u16-field .row .own) (map (λ (v : ℕ). v) ds) us) → (i : ℕ) → at ds i < 65536
-numbers-in-range [] us q i = lit< tt
-numbers-in-range (d ∷ ds) [] q i = absurd q
-numbers-in-range (d ∷ ds) (u ∷ us) q zero = q .0 .1
-numbers-in-range (d ∷ ds) (u ∷ us) q (suc i) = numbers-in-range ds us (q .1) i
 
 module _ (m : Mesh) (vs : List Val) (owned : Is meshType.the-row m vs) where
   pub entries-are : length (m .links) ≡ 256
@@ -45,7 +26,8 @@ module _ (m : Mesh) (vs : List Val) (owned : Is meshType.the-row m vs) where
   pub in-range : InRange m
   in-range = record {
     entries = entries-are;
-    links = each-in-range (m .links) _ (owned .1 .1 .0 .1 .1);
+    links = each-tells linkType.the-field LinkInRange zeroLink zero-in-range
+        (λ l u (_, (_, (low, (high, (length, (pair, _)))))). record { low = low .1; high = high .1; length = length .1; pair = pair .1 }) (m .links) _ (owned .1 .1 .0 .1 .1);
     numbers = numbers-are;
-    ducts = numbers-in-range (m .ducts) _ (owned .1 .1 .1 .1 .1 .0 .1 .1);
+    ducts = each-tells u16-field (λ d. d < 65536) 0 (lit< tt) (λ d u q. q .1) (m .ducts) _ (owned .1 .1 .1 .1 .1 .0 .1 .1);
   }

@@ -10,6 +10,7 @@ pub mod Flags
 pub mod Sweep
 pub mod Fill
 pub mod Part
+pub mod Owned
 pub mod Store
 pub mod Storing
 pub mod Bytes
