@@ -1,18 +1,17 @@
 -- The mesh checks of a mesh from before a change are those of the mesh that it becomes, with its own test of the entries past the last link after them. All
 -- that is asked of a carried-over link is that it keeps both ends, and that the zero link stays the zero link; none has a duct. Assumes the ranges of the old
 -- mesh's fields, which its types ensure.
-use Prim.Native.Nat.{ℕ, _+_, _≤_}
+use Prim.Native.Nat.{ℕ, _≤_}
 use mathlib.Core.Path.{_≡_, refl, sym, ap, _∙_}
-use mathlib.Core.Logic.{_≢_, ⊎-elim}
+use mathlib.Core.Logic.{_≢_}
 use mathlib.Core.Bool.{Bool, true, false, _||_, and-eq-true-iff}
 use mathlib.Core.List.{List}
 use native.Mathlib.Omega.{arith}
 use native.Mathlib.Decide.{decLt}
 use lib.Dec.{ltb, eqb}
-use lib.ListN.{length, getD, drop, length-map, List·getD-map, List·getD-eq-default}
-use lib.Seq.{getD-drop}
+use lib.ListN.{length, length-map, List·getD-map, List·getD-eq-default}
 use borrow.Author.Tests.{ltb-false, lt-ltb, le-ltb}
-use Rattle.scan.specs.Test.{clash, known, fails, or-false, Says, eq-says, and-says}
+use Rattle.scan.specs.Test.{clash, fails, or-false, Says, eq-says, and-says}
 use Rattle.scan.specs.All.{all-drop}
 use Rattle.scan.specs.Entry.{replicate-at}
 use Rattle.scan.specs.Lowest.{every-says, every-fails}
