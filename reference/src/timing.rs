@@ -10,24 +10,52 @@ use std::io::{self, Write};
 use crate::bench::{CUT, DECODE, DELIVER, ENCODE, PLAN, PLAN_IN_TWO_PASSES};
 use crate::bench::{RUN, RUN_OF_FIRST, STATUS, STATUS_AT_REST};
 use crate::book::bytes_of;
+use crate::mesh::Mesh;
 use contest::{contest, whole};
 use counter::Counter;
 use meshes::{subjects, Subject};
 use program::Program;
 
-/// The name of each row, and the jobs of the measured programs and of the bench.
-const ROWS: [(&str, [u8; 2]); 10] = [
-    ("decode", [DECODE; 2]),
-    ("encode", [ENCODE; 2]),
-    ("plan", [PLAN; 2]),
-    ("plan, against two passes", [PLAN, PLAN_IN_TWO_PASSES]),
-    ("run to rest", [RUN; 2]),
-    ("run to rest, wavelength 1 alone", [RUN_OF_FIRST; 2]),
-    ("cut by value", [CUT; 2]),
-    ("delivery by value", [DELIVER; 2]),
-    ("status", [STATUS; 2]),
-    ("status at rest", [STATUS_AT_REST; 2]),
+/// The name of a row, the jobs of the measured programs and of the bench, and
+/// the mesh of a subject that they get.
+type Row = (&'static str, [u8; 2], fn(&Subject) -> Mesh);
+
+/// Planning takes no heed of lengths and fibre pairs; the other jobs get them.
+const ROWS: [Row; 10] = [
+    ("decode", [DECODE; 2], Subject::filled),
+    ("encode", [ENCODE; 2], Subject::filled),
+    ("plan", [PLAN; 2], Subject::plain),
+    (
+        "plan, against two passes",
+        [PLAN, PLAN_IN_TWO_PASSES],
+        Subject::plain,
+    ),
+    ("run to rest", [RUN; 2], Subject::filled),
+    (
+        "run to rest, wavelength 1 alone",
+        [RUN_OF_FIRST; 2],
+        Subject::filled,
+    ),
+    ("cut by value", [CUT; 2], Subject::filled),
+    ("delivery by value", [DELIVER; 2], Subject::filled),
+    ("status", [STATUS; 2], Subject::filled),
+    ("status at rest", [STATUS_AT_REST; 2], Subject::filled),
 ];
+
+/// Those on books with ducts, which an earlier program may not read.
+const ROWS_WITH_DUCTS: [Row; 2] = [
+    ("decode, with ducts", [DECODE; 2], Subject::ducted),
+    ("encode, with ducts", [ENCODE; 2], Subject::ducted),
+];
+
+/// The rows for two programs, or for three with an earlier one.
+fn rows(programs: usize) -> Vec<Row> {
+    let mut rows = ROWS.to_vec();
+    if programs < 3 {
+        rows.extend(ROWS_WITH_DUCTS);
+    }
+    rows
+}
 
 /// Writes a Markdown table, a row for each job and mesh as it is measured:
 /// first the repeated jobs of bench programs, then whole runs of meshplan
@@ -40,10 +68,10 @@ pub fn write_table(
 ) -> io::Result<()> {
     let counter = Counter::find();
     writeln!(output, "{}", heading(benches.len(), counter.is_some()))?;
-    for (name, pair) in ROWS {
+    for (name, pair, mesh_of) in rows(benches.len()) {
         let jobs = jobs_of(pair, benches.len());
         for subject in subjects() {
-            let book = book_for(pair[0], &subject);
+            let book = bytes_of(&mesh_of(&subject));
             let measured = contest(benches, &jobs, &book).and_then(|times| {
                 let count = |counter: &Counter| counter.of_calls(benches, &jobs, &book);
                 Ok((times, counter.as_ref().map(count).transpose()?))
@@ -84,14 +112,6 @@ fn heading(programs: usize, counted: bool) -> String {
     }
     let bars = "--:|".repeat(names.matches('|').count());
     format!("| job | mesh |{names}\n|---|---|{bars}")
-}
-
-/// Planning takes no heed of lengths and fibre pairs; the other jobs get them.
-fn book_for(job: u8, subject: &Subject) -> Vec<u8> {
-    match job {
-        PLAN => bytes_of(&subject.plain()),
-        _ => bytes_of(&subject.filled()),
-    }
 }
 
 fn named(job: &str, subject: &Subject, error: &io::Error) -> io::Error {

@@ -1,6 +1,6 @@
 //! The meshes that times are measured on.
 
-use crate::corpus::meshes::{filled, plain, Fill};
+use crate::corpus::meshes::{filled, plain, with_ducts, Fill};
 use crate::corpus::shapes::{self, Shape};
 use crate::mesh::{Mesh, MOST_LINKS, MOST_NODES};
 use crate::random::Random;
@@ -15,13 +15,18 @@ pub struct Subject {
 }
 
 impl Subject {
-    /// The mesh without lengths and fibre pairs.
+    /// The mesh without lengths, fibre pairs and ducts.
     pub fn plain(&self) -> Mesh {
         plain(self.nodes, &self.shape)
     }
 
     /// The mesh with a length and a fibre pair in each link.
     pub fn filled(&self) -> Mesh {
+        with_ducts(&self.ducted(), |_| 0)
+    }
+
+    /// The mesh with a length, a fibre pair and a duct in each link.
+    pub fn ducted(&self) -> Mesh {
         let random = &mut Random::new(SEED);
         filled(self.nodes, &self.shape, Fill::All, random)
     }
@@ -77,6 +82,15 @@ mod tests {
     fn planning_accepts_each() {
         for subject in subjects() {
             assert_eq!(plan(&subject.plain()).1, Ok(()), "{}", subject.name);
+        }
+    }
+
+    #[test]
+    fn every_link_of_a_ducted_one_has_a_duct_and_of_the_others_none() {
+        for subject in subjects() {
+            let have = |mesh: Mesh| mesh.counted().iter().filter(|link| link.duct != 0).count();
+            assert_eq!(have(subject.ducted()), subject.shape.len());
+            assert_eq!((have(subject.filled()), have(subject.plain())), (0, 0));
         }
     }
 
