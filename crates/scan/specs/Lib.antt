@@ -5,6 +5,7 @@ pub mod Lowest
 pub mod Rising
 pub mod Total
 pub mod Distinct
+pub mod Passing
 pub mod Listed
 pub mod Flags
 pub mod Sweep

@@ -6,7 +6,7 @@ use mathlib.Core.List.{[], _∷_, List·Memᴰ}
 use lib.ListN.{length}
 use Rattle.scan.specs.Test.{Says, eq-says, and-says, or-says, denies, failing, says-same}
 use Rattle.scan.specs.Distinct.{rising-distinct}
-use Rattle.scan.specs.Listed.{passing-le, passing-mem, passing-rising, passing-one, passing-same}
+use Rattle.scan.specs.Passing.{passing-le, passing-mem, passing-rising, passing-one, passing-same}
 use Rattle.mesh.specs.declared.Mesh.{Mesh}
 use Rattle.mesh.specs.WellFormed.{duct}
 use Rattle.ducts.specs.Sharing.{shares, sharing}

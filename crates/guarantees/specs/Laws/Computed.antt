@@ -5,7 +5,7 @@ use mathlib.Core.Bool.{Bool, true, _&&_, and-eq-true-iff}
 use mathlib.Core.Logic.{⊎-elim}
 use mathlib.Core.List.{List, [], _∷_, List·Memᴰ, List·Memᴰ·not-nil, List·Memᴰ·cases-cons}
 use Rattle.scan.specs.All.{all}
-use Rattle.scan.specs.Listed.{passing}
+use Rattle.scan.specs.Passing.{passing}
 use Rattle.scan.specs.Lowest.{lowest, lowestFrom, any, every}
 use Rattle.graph.specs.Reach.{markWay, markLink, markLinks, rounds, reached, reaches}
 use Rattle.graph.specs.Plan.{connects, unreached, parts, assignments, firstThat, plan}

@@ -3,7 +3,7 @@ use Prim.Native.Nat.{ℕ, zero, suc, _<_}
 use mathlib.Core.Path.{_≡_, refl}
 use native.Mathlib.Omega.{arith}
 use Rattle.scan.specs.All.{all}
-use Rattle.scan.specs.Listed.{passing}
+use Rattle.scan.specs.Passing.{passing}
 use Rattle.mesh.specs.Mesh.{endsAnswer, linksAnswer, meshAnswer}
 use Rattle.fields.specs.Record.{recordLength, fieldsAt, recordAnswer}
 use Rattle.codec.specs.Book.{headerAnswer, recordsAnswer, fieldsFrom, bookAnswer, meshOf, decoded}

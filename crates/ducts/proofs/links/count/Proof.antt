@@ -6,7 +6,7 @@ use native.Mathlib.Omega.{arith}
 use denote.Ref.{now}
 use lib.ListN.{length}
 use Rattle.scan.specs.Entry.{at}
-use Rattle.scan.specs.Listed.{counted-none, counted-pass, counted-fail, passing-le}
+use Rattle.scan.specs.Passing.{counted-none, counted-pass, counted-fail, passing-le}
 use Rattle.ducts.specs.Sharing.{shares, linksSharing}
 use Rattle.ducts.proofs.links.count.Statement.{statement}
 use Rattle.ducts.proofs.links.count.Tie as tie
