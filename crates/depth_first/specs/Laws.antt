@@ -1,0 +1,5 @@
+pub mod Unfold
+pub mod Follows
+pub mod Ancestors
+pub mod Crossings
+pub mod Main

@@ -1,0 +1,5 @@
+pub mod Tree
+pub mod Search
+pub mod Crossings
+pub mod Folded
+pub mod Laws

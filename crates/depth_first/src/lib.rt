@@ -1,0 +1,1 @@
+// Theory only: depth-first search of a net, and the walk along its tree.
