@@ -1,0 +1,3 @@
+pub mod Arcs
+pub mod Walked
+pub mod Laws
