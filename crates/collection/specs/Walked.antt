@@ -33,11 +33,15 @@ pub record CanFollow (G : Net) (next : List ℕ) (u arc place : ℕ) (seen : Lis
   pub leaves : Leaves G u arc
   pub room : place + 2 * unvisited G seen ≤ length out
 
--- of the arcs from `arc` on that leave the same node, r is the first that leads to a new node, or the chain's end
-pub record Next (G : Net) (seen : List Bool) (arc r : ℕ) : Type 0 where
+-- of the arcs from `arc` on that leave the same node, those before r lead to no new node
+pub record Passed (G : Net) (seen : List Bool) (arc r : ℕ) : Type 0 where
   pub from : arc / 2 ≤ r / 2
   pub leaves : (u : ℕ) → Leaves G u arc → Leaves G u r
-  pub passed : (u : ℕ) → Leaves G u arc → (j : ℕ) → arc / 2 ≤ j → j < r / 2 → j < G .links → opens G seen u j ≡ false
+  pub visited : (u : ℕ) → Leaves G u arc → (j : ℕ) → arc / 2 ≤ j → j < r / 2 → j < G .links → opens G seen u j ≡ false
+
+-- and r does, or is the chain's end
+pub record Next (G : Net) (seen : List Bool) (arc r : ℕ) : Type 0 where
+  pub passed : Passed G seen arc r
   pub leads : (u : ℕ) → Leaves G u arc → r / 2 < G .links → opens G seen u (r / 2) ≡ true
 
 -- what the walk along the tree T below u, which writes `route` from `place` on, leaves

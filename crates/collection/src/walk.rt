@@ -10,6 +10,19 @@ ghost use Rattle.mesh.specs.Mesh.{meshAnswer};
 ghost use Rattle.collection.specs.Arcs.{netOfArcs};
 ghost use Rattle.collection.specs.Walked.{CanTry, CanVisit, CanFollow, Next, Visited, Followed, WalkedFrom};
 
+// A node, and an arc, as an index.
+fn node(v: u8) -> usize
+    ensures { λ r. ⌜ r ≡ v ⌝ }
+{
+    v as usize
+}
+
+fn arc_number(a: u16) -> usize
+    ensures { λ r. ⌜ r ≡ a ⌝ }
+{
+    a as usize
+}
+
 // The arc from `arc` on, in the chain of its node, that leads to a new node first; the chain's end where none does.
 fn next_new(next: &[u16; 576], to: &[u8; 512], links: usize, arc: usize, seen: &[bool]) -> usize
     requires { ⌜ CanTry (netOfArcs (length (now seen)) links (now to)) (now next) ⌝ }
@@ -17,10 +30,10 @@ fn next_new(next: &[u16; 576], to: &[u8; 512], links: usize, arc: usize, seen: &
 {
     let mut a = arc;
     while a / 2 < links {
-        if !seen[to[a] as usize] {
+        if !seen[node(to[a])] {
             return a;
         }
-        a = next[a] as usize;
+        a = arc_number(next[a]);
     }
     a
 }
@@ -40,9 +53,9 @@ fn visit(
     ensures { λ r. ⌜ Visited (netOfArcs (length (now (seen .entry))) links (now (to .entry))) u place
         (now (seen .entry)) (now (tree .entry)) (now (out .entry)) r (now (seen .exit)) (now (tree .exit)) (now (out .exit)) ⌝ }
 {
-    seen[u as usize] = true;
+    seen[node(u)] = true;
     out[place] = u;
-    let arc = next[HEADS + u as usize] as usize;
+    let arc = arc_number(next[HEADS + node(u)]);
     follow(next, to, links, u, arc, place + 1, seen, tree, out)
 }
 
@@ -71,7 +84,7 @@ fn follow(
     let v = to[a];
     let back = visit(next, to, links, v, place, seen, tree, out);
     out[back] = u;
-    let later = next[a] as usize;
+    let later = arc_number(next[a]);
     follow(next, to, links, u, later, back + 1, seen, tree, out)
 }
 

@@ -72,7 +72,7 @@ module _ (G : Net) where
   -- ---- the ends of a link
 
   -- link i, which joins a and b, leads from a to b
-  joins-far : (i a b : ℕ) → Joins G i a b → (touches G a i ≡ true) × (far G a i ≡ b)
+  pub joins-far : (i a b : ℕ) → Joins G i a b → (touches G a i ≡ true) × (far G a i ≡ b)
   joins-far i a b (inl (p, q)) = (rw (eq-eqb (low i) a (sym p)), rw (eq-eqb (low i) a (sym p)) (sym q))
   joins-far i a b (inr (p, q)) = go (ℕ-discrete (low i) a)
     where
