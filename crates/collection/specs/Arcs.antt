@@ -7,7 +7,7 @@ use lib.ListN.{length}
 use Rattle.scan.specs.Entry.{at}
 use Rattle.graph.specs.Net.{Net, end, code}
 use Rattle.mesh.specs.declared.Mesh.{Mesh}
-use Rattle.planner.specs.Plan.{netOf}
+use Rattle.nets.specs.Nets.{netOf}
 use Rattle.depth_first.specs.Search.{touches}
 
 -- the arc along link i in the way d: 2 × i from its low to its high end, 2 × i + 1 back

@@ -8,7 +8,7 @@ use lib.Seq.{sets}
 use Rattle.scan.specs.Entry.{has}
 use Rattle.graph.specs.Net.{Net, Fits}
 use Rattle.mesh.specs.declared.Mesh.{Mesh}
-use Rattle.planner.specs.Plan.{netOf}
+use Rattle.nets.specs.Nets.{netOf}
 use Rattle.depth_first.specs.Tree.{Tree, visited, labelled, tour}
 use Rattle.depth_first.specs.Search.{opens, unvisited, visit, follow, searchFrom}
 use Rattle.collection.specs.Arcs.{Leaves, Chains}

@@ -25,8 +25,9 @@ use Rattle.codec.specs.Laws.Prefix.{decoded-take}
 use Rattle.codec.specs.Laws.Shown.{record-shown}
 use Rattle.graph.specs.Net.{Parted, bothWays, without, First}
 use Rattle.graph.specs.Laws.First.{first-unique}
-use Rattle.planner.specs.Plan.{netOf, planned}
-use Rattle.planner.specs.Meaning.{NoPath, LinkParts, FirstPlan}
+use Rattle.nets.specs.Nets.{netOf, NoPath}
+use Rattle.planner.specs.Plan.{planned}
+use Rattle.planner.specs.Meaning.{LinkParts, FirstPlan}
 use Rattle.planner.specs.Laws.Meaning.{plan-refuses, plan-first, plan-numbers}
 use Rattle.mesh.specs.declared.Plan.{Plan}
 use Rattle.wavelengths.specs.declared.Wavelength.{Wavelength}

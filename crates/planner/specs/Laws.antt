@@ -1,4 +1,3 @@
-pub mod Fits
 pub mod Tables
 pub mod Directing
 pub mod Outcome

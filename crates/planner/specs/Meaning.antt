@@ -1,16 +1,11 @@
--- What the answer of planning means, in walks along links (01, "The plan" and "Refusals from the input"). Definitions only.
+-- What the answer of planning means, in walks along links (01, "The plan" and "Refusals from the input"); refusal 20 is `NoPath` of `nets`. Definitions only.
 use Prim.Native.Nat.{ℕ, _<_}
 use mathlib.Core.Path.{_≡_}
 use mathlib.Core.List.{List}
-use Rattle.graph.specs.Net.{Net, Leads, Strong, bothWays, without, Parted, First}
+use Rattle.graph.specs.Net.{Net, Strong, bothWays, without, Parted, First}
 use Rattle.mesh.specs.declared.Mesh.{Mesh}
-use Rattle.planner.specs.Plan.{netOf, padded, planned}
-
--- 20 no path between some two nodes: the place is the lowest node that node 0 doesn't reach
-pub record NoPath (G : Net) (place : ℕ) : Type 0 where
-  pub node : place < G .nodes
-  pub unreached : Leads G bothWays 0 place → ⊥
-  pub lowest : (v : ℕ) → v < place → Leads G bothWays 0 v
+use Rattle.nets.specs.Nets.{netOf}
+use Rattle.planner.specs.Plan.{padded, planned}
 
 -- 21 some link's removal parts the mesh, in which every two nodes have a path between them: the place is the lowest such link
 pub record LinkParts (G : Net) (place : ℕ) : Type 0 where

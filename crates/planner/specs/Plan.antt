@@ -5,19 +5,14 @@ use mathlib.Core.List.{List, [], _++_}
 use mathlib.Core.Option.{Option, none, some}
 use lib.ListN.{length, replicate}
 use Rattle.scan.specs.Lowest.{lowest, any}
-use Rattle.graph.specs.Net.{Net}
 use Rattle.graph.specs.Plan.{unreached, parts, plan}
 use Rattle.mesh.specs.declared.Mesh.{Mesh}
 use Rattle.mesh.specs.declared.Plan.{Plan}
 use Rattle.mesh.specs.declared.Answer.{Answer}
 use Rattle.mesh.specs.declared.Answer.the-variants.{Accepted, Refused}
 use Rattle.mesh.specs.Mesh.{must, andThen, meshAnswer}
-use Rattle.mesh.specs.WellFormed.{link}
+use Rattle.nets.specs.Nets.{netOf}
 use Rattle.planner.specs.declared.Planned.{Planned}
-
--- the nodes and links of a mesh
-abbrev pub netOf : Mesh → Net
-netOf m = record { nodes = m .nodes; links = m .count; low = λ i. link m i .low; high = λ i. link m i .high }
 
 -- planning: the mesh checks; 20 with the lowest node that node 0 does not reach; 21 with the lowest link whose removal parts the mesh
 unfoldable pub planAnswer : Mesh → Answer

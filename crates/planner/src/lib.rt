@@ -32,8 +32,8 @@ pub fn plan(m: Mesh) -> Planned
     let Answer::Accepted = a else {
         return refused(a);
     };
-    let table = search::all_ways(m);
-    let v = search::lowest_unreached(m, &table);
+    let table = nets::all_ways(m);
+    let v = nets::lowest_unreached(m.nodes, &table);
     if v < m.nodes {
         return refused(Answer::Refused {
             number: 20,

@@ -13,7 +13,7 @@ use Rattle.scan.specs.Entry.{at, Changed, set-at, replicate-at}
 use Rattle.graph.specs.Net.{Net, end, code}
 use Rattle.mesh.specs.declared.Mesh.{Mesh}
 use Rattle.mesh.specs.WellFormed.{link, WellFormed}
-use Rattle.planner.specs.Plan.{netOf}
+use Rattle.nets.specs.Nets.{netOf}
 use Rattle.depth_first.specs.Search.{touches}
 use Rattle.collection.specs.Arcs.{arcOf, ended, leaving, Heads, Chained}
 

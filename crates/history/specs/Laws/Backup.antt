@@ -21,9 +21,10 @@ use Rattle.mesh.specs.declared.Plan.{Plan}
 use Rattle.mesh.specs.declared.Answer.the-variants.{Accepted}
 use Rattle.mesh.specs.WellFormed.{WellFormed}
 use Rattle.mesh.specs.Laws.Checked.{well-formed}
-use Rattle.planner.specs.Plan.{netOf, padded, planned}
+use Rattle.nets.specs.Nets.{netOf}
+use Rattle.nets.specs.Laws.Fits.{well-formed-fits}
+use Rattle.planner.specs.Plan.{padded, planned}
 use Rattle.planner.specs.Meaning.{FirstPlan}
-use Rattle.planner.specs.Laws.Fits.{well-formed-fits}
 use Rattle.planner.specs.Laws.Meaning.{plan-first, plan-checked}
 use Rattle.topology.specs.Backup.{backup}
 

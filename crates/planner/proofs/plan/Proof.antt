@@ -1,7 +1,15 @@
 -- `planner::plan` meets its contract: each way out is one of the outcomes of planning, by what the checks answered and the searches found.
-use mathlib.Core.Path.{sym, _∙_}
+use mathlib.Core.Path.{_≡_, refl, sym, _∙_}
 use borrow.Author.Needs.{needs}
-use Rattle.mesh.specs.Laws.Checked.{well-formed}
+use Rattle.scan.specs.Lowest.{lowest}
+use Rattle.mesh.specs.declared.Mesh.{Mesh}
+use Rattle.mesh.specs.declared.Answer.the-variants.{Accepted}
+use Rattle.mesh.specs.Mesh.{meshAnswer}
+use Rattle.mesh.specs.Laws.Checked.{passes, well-formed}
+use Rattle.graph.specs.Net.{bothWays}
+use Rattle.graph.specs.Plan.{unreached}
+use Rattle.nets.specs.Nets.{netOf, Table}
+use Rattle.nets.specs.Laws.Fits.{fits}
 use Rattle.planner.specs.Laws.Outcome.{planned-refused, answer-unchecked, answer-unreached, all-joined, answer-parted, planned-made}
 use Rattle.planner.proofs.plan.Statement.{statement}
 use Rattle.planner.proofs.plan.Tie as tie
@@ -25,11 +33,29 @@ returns c =
     let m = checked .before .args .m in
     planned-refused m (answer-unchecked m (sym (checked .check .ensures .0) ∙ told)) (c .refused .ensures .0) (c .refused .ensures .1 ∙ told)
 
+-- past the checks
+accepted : (c : tie.After-enum-told) → meshAnswer (c .before .before .before .args .m) ≡ Accepted
+accepted c = sym (c .before .before .check .ensures .0) ∙ c .enum-told .given .1
+
 all-ways-requires : tie.Need-all-ways-requires
-all-ways-requires c κs = sym (c .before .before .check .ensures .0) ∙ c .enum-told .given .1
+all-ways-requires c κs = search needs
 
 lowest-unreached-requires : tie.Need-lowest-unreached-requires
-lowest-unreached-requires c κs = (all-ways-requires (c .before .before) _, c .before .all-ways .ensures)
+lowest-unreached-requires c κs = search needs
+
+-- past the search from node 0
+module _ (c : tie.After-lowest-unreached) where
+  abbrev told : tie.After-enum-told
+  told = c .before .before .before
+
+  abbrev mesh : Mesh
+  mesh = told .before .before .before .args .m
+
+  ways : Table (netOf mesh) bothWays (c .before .before .all-ways .result)
+  ways = c .before .before .all-ways .ensures (accepted told)
+
+  found : c .lowest-unreached .result ≡ lowest (unreached (netOf mesh)) (mesh .nodes)
+  found = c .lowest-unreached .ensures (netOf mesh) (fits mesh (accepted told)) refl (passes mesh (accepted told) .nodes-most) ways
 
 cast-t12 : tie.Need-cast-t12
 cast-t12 c = search needs
@@ -39,22 +65,18 @@ refused-requires-2 c κs = search needs
 
 returns-2 : tie.Need-returns-2
 returns-2 c =
-    let found = c .before .before .before in
-    let told = found .before .before .before in
-    let m = told .before .before .before .args .m in
-    planned-refused m (answer-unreached m (all-ways-requires told _) (found .lowest-unreached .ensures) (c .before .if1 .taken))
-    (c .refused2 .ensures .0) (c .refused2 .ensures .1)
+    let searched = c .before .before .before in
+    planned-refused (mesh searched) (answer-unreached (mesh searched) (accepted (told searched)) (found searched) (c .before .if1 .taken)) (c .refused2 .ensures .0)
+    (c .refused2 .ensures .1)
 
 all-directions-requires : tie.Need-all-directions-requires
 all-directions-requires c κs =
-    let found = c .before .before in
-    let told = found .before .before .before in
-    let checked = told .before .before in
-    let m = checked .before .args .m in
-    let ok = all-ways-requires told _ in (
-      well-formed m (checked .check .ensures .1 .entries) ok,
-      all-joined m ok (found .lowest-unreached .ensures) (c .if1 .left),
-      found .before .before .all-ways .ensures,
+    let searched = c .before .before in
+    let checked = told searched .before .before in
+    let ok = accepted (told searched) in (
+      well-formed (mesh searched) (checked .check .ensures .1 .entries) ok,
+      all-joined (mesh searched) ok (found searched) (c .if1 .left),
+      ways searched,
     )
 
 cast-t14 : tie.Need-cast-t14
@@ -66,21 +88,18 @@ refused-requires-3 c κs = search needs
 returns-3 : tie.Need-returns-3
 returns-3 c =
     let directed = c .before .before .before .before .before in
-    let found = directed .before .before .before in
-    let told = found .before .before .before in
-    let m = told .before .before .before .args .m in
-    planned-refused m
-    (answer-parted m (all-ways-requires told _) (found .lowest-unreached .ensures) (directed .before .if1 .left) (directed .all-directions .ensures)
+    let searched = directed .before .before .before in
+    planned-refused (mesh searched)
+    (answer-parted (mesh searched) (accepted (told searched)) (found searched) (directed .before .if1 .left) (directed .all-directions .ensures)
     (c .before .before .if2 .taken))
     (c .refused3 .ensures .0) (c .refused3 .ensures .1)
 
 returns-4 : tie.Need-returns-4
 returns-4 c =
     let directed = c .before .before .before .before in
-    let found = directed .before .before .before in
-    let told = found .before .before .before in
-    planned-made (told .before .before .before .args .m) (all-ways-requires told _) (found .lowest-unreached .ensures) (directed .before .if1 .left)
-    (directed .all-directions .ensures) (c .before .if2 .left)
+    let searched = directed .before .before .before in
+    planned-made (mesh searched) (accepted (told searched)) (found searched) (directed .before .if1 .left) (directed .all-directions .ensures)
+    (c .before .if2 .left)
 
 pub plan-spec : {M : Type 1} → statement M
 plan-spec =

@@ -10,8 +10,9 @@ use Rattle.mesh.specs.declared.Answer.the-variants.{Accepted}
 use Rattle.mesh.specs.Mesh.{must, andThen, meshAnswer}
 use Rattle.mesh.specs.WellFormed.{SameEnds}
 use Rattle.mesh.specs.Laws.ByEnds.{same-low, same-high}
+use Rattle.nets.specs.Nets.{netOf}
 use Rattle.planner.specs.declared.Planned.{Planned}
-use Rattle.planner.specs.Plan.{netOf, planAnswer, padded, orNone, plannedAs, planned}
+use Rattle.planner.specs.Plan.{planAnswer, padded, orNone, plannedAs, planned}
 
 -- planning a net after the mesh checks
 abbrev plannedOn : Answer → Net → Planned

@@ -18,11 +18,12 @@ use Rattle.graph.specs.Plan.{parts}
 use Rattle.graph.specs.Greedy.{greedy, direction, begun, bridge}
 use Rattle.graph.specs.Laws.Bridge.{unbridged-up, unbridged-down, bridge-parts}
 use Rattle.graph.specs.Laws.Pass.{greedy-length, begun-late, begun-next, next-up, next-down, stuck-bridge}
-use Rattle.planner.specs.Plan.{netOf}
 use Rattle.rows.specs.Rows.{put, cut, Directed, up, down, stuck}
-use Rattle.planner.specs.Search.{Table, Directs}
-use Rattle.planner.specs.Laws.Fits.{well-formed-fits, counted, Simple, simple}
-use Rattle.planner.specs.Laws.Tables.{opened-says, Tables, both-tables, found, none-found, same-tables, put-tables, cut-tables}
+use Rattle.nets.specs.Nets.{netOf, Table}
+use Rattle.nets.specs.Laws.Fits.{well-formed-fits, counted, Simple, simple}
+use Rattle.nets.specs.Laws.Table.{opened-says}
+use Rattle.planner.specs.Search.{Directs}
+use Rattle.planner.specs.Laws.Tables.{Tables, both-tables, found, none-found, same-tables, put-tables, cut-tables}
 
 -- ---- one link
 

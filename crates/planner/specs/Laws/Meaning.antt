@@ -1,5 +1,5 @@
--- What planning means: which meshes it refuses, with which number and place, and that an accepted plan is the first admissible assignment. The two tests behind
--- the answer are told by walks. Assumes nothing.
+-- What planning means: which meshes it refuses, with which number and place, and that an accepted plan is the first admissible assignment. The test behind
+-- refusal 21 is told by walks here, that behind 20 in `nets`. Assumes nothing.
 use Prim.Native.Nat.{ℕ, _<_}
 use mathlib.Core.Path.{_≡_, refl, sym, _∙_, ap, subst}
 use mathlib.Core.Logic.{_⊎_, inl, inr, ⊎-elim, ⊎-map, _↔_}
@@ -16,29 +16,19 @@ use Rattle.mesh.specs.Laws.Answer.{andThen-accepted, Tells, accepting, refusing
 use Rattle.graph.specs.Net.{Net, Fits, bothWays, without, Parted}
 use Rattle.graph.specs.Plan.{unreached, parts}
 use Rattle.graph.specs.Greedy.{greedy}
-use Rattle.graph.specs.Laws.Reached.{reaches-iff}
 use Rattle.graph.specs.Laws.Connected.{connects-iff}
-use Rattle.graph.specs.Laws.Refusal.{unreached-says, all-reached, parts-says, refused-iff, planned-first}
+use Rattle.graph.specs.Laws.Refusal.{all-reached, parts-says, refused-iff, planned-first}
+use Rattle.nets.specs.Nets.{netOf, NoPath}
+use Rattle.nets.specs.Laws.Fits.{fits}
+use Rattle.nets.specs.Laws.NoPath.{any-unreached}
 use Rattle.planner.specs.declared.Planned.{Planned}
-use Rattle.planner.specs.Plan.{netOf, planAnswer, plannedAs, planned}
-use Rattle.planner.specs.Meaning.{NoPath, LinkParts, FirstPlan}
-use Rattle.planner.specs.Laws.Fits.{fits}
+use Rattle.planner.specs.Plan.{planAnswer, plannedAs, planned}
+use Rattle.planner.specs.Meaning.{LinkParts, FirstPlan}
 use Rattle.planner.specs.Laws.Outcome.{planned-accepted}
 
--- ---- the two tests
+-- ---- the test behind refusal 21
 
 module _ {G : Net} (F : Fits G) where
-  any-unreached : any (unreached G) (G .nodes) ≡ true → NoPath G (lowest (unreached G) (G .nodes))
-  unfolding any unreached
-  any-unreached e =
-      let L = lowest-is (unreached G) (G .nodes) in
-      let h = ltb-true _ (G .nodes) e in
-      record {
-        node = h;
-        unreached = unreached-says F _ .0 (L .passes h);
-        lowest = λ v l. reaches-iff F bothWays 0 (F .some-node) v .0 (not-false _ (L .before v l));
-      }
-
   any-parts : any (unreached G) (G .nodes) ≡ false → any (parts G) (G .links) ≡ true → LinkParts G (lowest (parts G) (G .links))
   unfolding any parts
   any-parts r e =

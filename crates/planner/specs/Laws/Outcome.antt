@@ -13,10 +13,11 @@ use Rattle.graph.specs.Plan.{unreached, parts}
 use Rattle.graph.specs.Greedy.{greedy}
 use Rattle.graph.specs.Laws.Pass.{greedy-length}
 use Rattle.graph.specs.Laws.Refusal as refusal
+use Rattle.nets.specs.Nets.{netOf}
+use Rattle.nets.specs.Laws.Fits.{fits}
 use Rattle.planner.specs.declared.Planned.{Planned}
-use Rattle.planner.specs.Plan.{netOf, planAnswer, padded, zeroPlan, planned}
+use Rattle.planner.specs.Plan.{planAnswer, padded, zeroPlan, planned}
 use Rattle.planner.specs.Search.{Directs}
-use Rattle.planner.specs.Laws.Fits.{fits}
 
 module _ (m : Mesh) where
   -- a refusal, with all zeros

@@ -1,61 +1,32 @@
--- Rows that have the net's open ways: walks along the rows are walks of the net, and the rows follow when one way of a link is opened or shut. The same of two
--- tables, of which the second has the ways by the nodes that they enter. Assumes nothing.
+-- The rows that have the net's open ways when one way of a link is shut, or both; and two tables, of which the second has the ways by the nodes that they
+-- enter. Assumes nothing.
 use Prim.Native.Nat.{ℕ, _<_, _≤_}
-use mathlib.Core.Path.{_≡_, refl, sym, _∙_, ap}
-use mathlib.Core.Logic.{_⊎_, inl, inr, ⊎-elim, ⊎-map, _↔_, Iff·rfl}
-use mathlib.Core.Bool.{Bool, true, false, not, _&&_, _||_, true≢false, Bool·not-not}
+use mathlib.Core.Path.{_≡_, refl, sym, _∙_}
+use mathlib.Core.Logic.{⊎-elim, _↔_, Iff·rfl}
+use mathlib.Core.Bool.{Bool, true, false, not, _&&_, true≢false, Bool·not-not}
 use mathlib.Core.List.{List}
-use native.Mathlib.Omega.{arith}
-use lib.ListN.{length}
-use lib.Dec.{eqb}
-use Rattle.scan.specs.Test.{known, Says, eq-says, and-says, or-says, denies}
-use Rattle.graph.specs.Walk.{Walk, one, replace}
-use Rattle.graph.specs.Net.{Net, Fits, end, Ways, Leads, bothWays, without, code}
-use Rattle.graph.specs.Laws.Arcs.{end-below, arc, reopen, turn, without-free, without-open}
-use Rattle.graph.specs.Laws.Pass.{code-inj}
-use Rattle.rows.specs.Rows.{Edge, Mirror, Meet, Apart, put, flip, cut}
-use Rattle.planner.specs.Search.{Table}
-use Rattle.rows.specs.Laws.Edges.{length-put, length-flip, put-edge, flip-edge}
+use Rattle.scan.specs.Test.{known, Says, and-says, denies}
+use Rattle.graph.specs.Net.{Net, Fits, end, Ways, Leads, bothWays, without}
+use Rattle.graph.specs.Laws.Arcs.{arc, reopen, turn, without-free, without-open}
+use Rattle.rows.specs.Rows.{Mirror, Meet, Apart, put, flip, cut}
+use Rattle.rows.specs.Laws.Edges.{length-flip, flip-edge}
 use Rattle.rows.specs.Laws.Meeting.{meet-leads, apart-none}
-use Rattle.planner.specs.Laws.Fits.{Simple}
+use Rattle.nets.specs.Nets.{Table}
+use Rattle.nets.specs.Laws.Fits.{Simple}
+use Rattle.nets.specs.Laws.Table.{isWay, isWay-says, opened, to-leads, from-leads, same-ways, end-in, put-way}
 
 -- ---- one way
 
-abbrev isWay : ℕ → Bool → ℕ → Bool → Bool
-isWay k d i e = eqb i k && eqb (code e) (code d)
-
--- way d of link k open too; shut
-abbrev pub opened : ℕ → Bool → Ways → Ways
-opened k d w i e = w i e || isWay k d i e
-
-abbrev pub shut : ℕ → Bool → Ways → Ways
+-- way d of link k shut
+abbrev shut : ℕ → Bool → Ways → Ways
 shut k d w i e = w i e && not (isWay k d i e)
 
-module _ (k : ℕ) (d : Bool) (w : Ways) (i : ℕ) (e : Bool) where
-  isWay-says : Says (isWay k d i e) ((i ≡ k) × (e ≡ d))
-  isWay-says = and-says (eq-says i k) (λ q. code-inj e d (eq-says _ _ .0 q), λ q. eq-says _ _ .1 (ap code q))
-
-  pub opened-says : Says (opened k d w i e) ((w i e ≡ true) ⊎ ((i ≡ k) × (e ≡ d)))
-  opened-says = or-says Iff·rfl isWay-says
-
-  pub shut-says : Says (shut k d w i e) ((w i e ≡ true) × ((i ≡ k) × (e ≡ d) → ⊥))
-  shut-says = and-says Iff·rfl (denies isWay-says)
+shut-says : (k : ℕ) (d : Bool) (w : Ways) (i : ℕ) (e : Bool) → Says (shut k d w i e) ((w i e ≡ true) × ((i ≡ k) × (e ≡ d) → ⊥))
+shut-says k d w i e = and-says Iff·rfl (denies (isWay-says k d i e))
 
 -- both ways of link k
 module _ (k : ℕ) (w : Ways) (i : ℕ) (e : Bool) where
-  pub opened-both : Says (opened k true (opened k false w) i e) ((w i e ≡ true) ⊎ (i ≡ k))
-  opened-both = (
-    λ o. ⊎-elim (λ p. ⊎-map (λ f. f) (λ (q, _). q) (first .0 p)) (λ (q, _). inr q) (second .0 o),
-    ⊎-elim (λ f. second .1 (inl (first .1 (inl f)))) (λ q. ⊎-elim (λ t. second .1 (inr (q, t))) (λ f. second .1 (inl (first .1 (inr (q, f))))) (known e)),
-  )
-    where
-      first : Says (opened k false w i e) ((w i e ≡ true) ⊎ ((i ≡ k) × (e ≡ false)))
-      first = opened-says k false w i e
-
-      second : Says (opened k true (opened k false w) i e) ((opened k false w i e ≡ true) ⊎ ((i ≡ k) × (e ≡ true)))
-      second = opened-says k true (opened k false w) i e
-
-  pub shut-both : Says (without k w i e) (shut k true (shut k false w) i e ≡ true)
+  shut-both : Says (without k w i e) (shut k true (shut k false w) i e ≡ true)
   shut-both = (
     λ o. let (n, f) = without-open k w i e o in second .1 (first .1 (f, λ (q, _). n q), λ (q, _). n q),
     λ o. let (p, n) = second .0 o in let (f, m) = first .0 p in without-free k w i e (λ q. ⊎-elim (λ t. n (q, t)) (λ t. m (q, t)) (known e)) f,
@@ -67,53 +38,19 @@ module _ (k : ℕ) (w : Ways) (i : ℕ) (e : Bool) where
       second : Says (shut k true (shut k false w) i e) ((shut k false w i e ≡ true) × ((i ≡ k) × (e ≡ true) → ⊥))
       second = shut-says k true (shut k false w) i e
 
--- ---- rows and walks
+-- ---- rows and ways
 
-module _ {G : Net} {w : Ways} {rows : List ℕ} (T : Table G w rows) where
-  pub to-leads : {u v : ℕ} → Walk (Edge rows) u v → Leads G w u v
-  to-leads p = replace (λ u v e. one (T .ways u v .0 e)) p
-
-  pub from-leads : {u v : ℕ} → Leads G w u v → Walk (Edge rows) u v
-  from-leads p = replace (λ u v a. one (T .ways u v .1 a)) p
-
-  -- ---- rows and ways
-
-  -- only the ways along the net's links count
-  pub same-ways : (x : Ways) → ((i : ℕ) (d : Bool) → i < G .links → (x i d ≡ true) ↔ (w i d ≡ true)) → Table G x rows
-  same-ways x f = record {
-    sized = T .sized;
-    ways = λ u v. (
-      λ e. let a = T .ways u v .0 e in reopen a (f _ _ (a .below) .1 (a .free)),
-      λ a. T .ways u v .1 (reopen a (f _ _ (a .below) .0 (a .free))),
+module _ {G : Net} {w : Ways} {rows : List ℕ} (T : Table G w rows) (F : Fits G) (n : G .nodes ≤ 64) (k : ℕ) (h : k < G .links) (d : Bool) where
+  flip-way : Simple G → w k d ≡ true → Table G (shut k d w) (flip rows (end G k d) (end G k (not d)))
+  flip-way S on = record {
+    sized = length-flip rows _ _ ∙ T .sized;
+    ways = λ u v. let (out, into) = flip-edge rows (end G k d) (end G k (not d)) (end-in T F n k h d) u v (T .ways _ _ .1 (arc k d h on)) in (
+      λ e. let (g, n) = out e in let a = T .ways u v .0 g in
+          reopen a (shut-says k d w _ _ .1 (a .free, λ (q, r). n (cc (a .starts), cc (a .ends)))),
+      λ a. let (f, n) = shut-says k d w _ _ .0 (a .free) in
+          into (T .ways u v .1 (reopen a f), λ (s, t). n (S (a .link) k (a .way) d (a .below) h (sym (a .starts) ∙ s) (sym (a .ends) ∙ t))),
     );
   }
-
-  module _ (F : Fits G) (n : G .nodes ≤ 64) (k : ℕ) (h : k < G .links) (d : Bool) where
-    end-in : end G k d < length rows
-    end-in = omega (arith, end-below F k h d, T .sized)
-
-    pub put-way : Table G (opened k d w) (put rows (end G k d) (end G k (not d)))
-    put-way = record {
-      sized = length-put rows _ _ ∙ T .sized;
-      ways = λ u v. let (out, into) = put-edge rows (end G k d) (end G k (not d)) end-in u v in (
-        λ e. ⊎-elim
-            (λ g. let a = T .ways u v .0 g in reopen a (opened-says k d w _ _ .1 (inl (a .free))))
-            (λ (s, t). record { link = k; way = d; below = h; free = opened-says k d w k d .1 (inr (refl, refl)); starts = s; ends = t })
-            (out e),
-        λ a. into (⊎-map (λ f. T .ways u v .1 (reopen a f)) (λ (q, r). (cc (a .starts), cc (a .ends))) (opened-says k d w _ _ .0 (a .free))),
-      );
-    }
-
-    pub flip-way : Simple G → w k d ≡ true → Table G (shut k d w) (flip rows (end G k d) (end G k (not d)))
-    flip-way S on = record {
-      sized = length-flip rows _ _ ∙ T .sized;
-      ways = λ u v. let (out, into) = flip-edge rows (end G k d) (end G k (not d)) end-in u v (T .ways _ _ .1 (arc k d h on)) in (
-        λ e. let (g, n) = out e in let a = T .ways u v .0 g in
-            reopen a (shut-says k d w _ _ .1 (a .free, λ (q, r). n (cc (a .starts), cc (a .ends)))),
-        λ a. let (f, n) = shut-says k d w _ _ .0 (a .free) in
-            into (T .ways u v .1 (reopen a f), λ (s, t). n (S (a .link) k (a .way) d (a .below) h (sym (a .starts) ∙ s) (sym (a .ends) ∙ t))),
-      );
-    }
 
 -- both ways of link k shut
 cut-way : {G : Net} {w : Ways} {rows : List ℕ} → Table G w rows → Fits G → G .nodes ≤ 64 → (k : ℕ) → k < G .links → Simple G

@@ -1,4 +1,4 @@
--- `searches::all_directions` meets its contract. The loop's invariant is `Directing`; a link that gets no direction is the lowest that parts the mesh.
+-- `planner::search::all_directions` meets its contract. The loop's invariant is `Directing`; a link that gets no direction is the lowest that parts the mesh.
 use Prim.Native.Nat.{_-_}
 use native.Mathlib.Omega.{arith}
 use borrow.Author.Needs.{needs}

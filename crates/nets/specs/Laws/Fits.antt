@@ -11,7 +11,7 @@ use Rattle.mesh.specs.Mesh.{meshAnswer}
 use Rattle.mesh.specs.WellFormed.{link, WellFormed}
 use Rattle.mesh.specs.Laws.Checked.{passes}
 use Rattle.graph.specs.Net.{Net, Fits, end}
-use Rattle.planner.specs.Plan.{netOf}
+use Rattle.nets.specs.Nets.{netOf}
 
 pub fits : (m : Mesh) → meshAnswer m ≡ Accepted → Fits (netOf m)
 fits m ok = let p = passes m ok in record { some-node = omega (arith, p .nodes-least); low-below = p .low-below; high-below = p .high-below }

@@ -1,4 +1,5 @@
--- `searches::all_ways` meets its contract. The loop's invariant: the rows have the ways of the links before k, which the two stores of a turn open for link k.
+-- `nets::all_ways` meets its contract. The loop's invariant: of a mesh that passes the checks the rows have the ways of the links before k, which the two
+-- stores of a turn open for link k.
 use Prim.Native.Nat.{ℕ, _+_, _-_, _%_, _≤_, _<_}
 use mathlib.Core.Path.{_≡_, refl}
 use mathlib.Core.Logic.{_⊎_, inl, inr, ⊎-elim, Iff·symm, Iff·trans}
@@ -19,13 +20,12 @@ use Rattle.mesh.specs.Mesh.{meshAnswer}
 use Rattle.mesh.specs.WellFormed.{link}
 use Rattle.mesh.specs.Laws.Checked.{passes}
 use Rattle.graph.specs.Net.{Net, Ways, bothWays}
-use Rattle.planner.specs.Plan.{netOf}
 use Rattle.rows.specs.Rows.{put}
-use Rattle.planner.specs.Search.{Table}
-use Rattle.planner.specs.Laws.Fits.{fits, counted}
-use Rattle.planner.specs.Laws.Tables.{opened-both, same-ways, put-way}
-use Rattle.planner.proofs.search.all_ways.Statement.{statement}
-use Rattle.planner.proofs.search.all_ways.Tie as tie
+use Rattle.nets.specs.Nets.{netOf, Table}
+use Rattle.nets.specs.Laws.Fits.{fits, counted}
+use Rattle.nets.specs.Laws.Table.{opened-both, same-ways, put-way}
+use Rattle.nets.proofs.all_ways.Statement.{statement}
+use Rattle.nets.proofs.all_ways.Tie as tie
 
 -- the links before k, open both ways
 abbrev before : ℕ → Ways
@@ -55,26 +55,25 @@ module _ (m : Mesh) (ok : meshAnswer m ≡ Accepted) (k : ℕ) (h : k < m .count
       (λ i d l. Iff·trans (before-next k i) (Iff·symm (opened-both k (before k) i d))))
 
 abbrev Inv-loop : tie.InvT-loop
-Inv-loop m count table₀ k₀ table k = (k ≤ count) × Table (netOf m) (before k) table
+Inv-loop m links table₀ k₀ table k = (k ≤ links) × (meshAnswer m ≡ Accepted → Table (netOf m) (before k) table)
 
 abbrev μ-loop : tie.MeasureT-loop
-μ-loop m count table₀ k₀ table k = count - k
+μ-loop m links table₀ k₀ table k = links - k
 
-cast-count : tie.Need-cast-count Inv-loop μ-loop
-cast-count c = search needs
+cast-lower : tie.Need-cast-lower Inv-loop μ-loop
+cast-lower c = search needs
+
+lower-requires : tie.Need-lower-requires Inv-loop μ-loop
+lower-requires c κs = search needs
 
 loop-holds : tie.Need-loop-holds Inv-loop μ-loop
-loop-holds c = (omega arith, none-before _)
+loop-holds c = (omega arith, λ _. none-before _)
 
 mul-l : tie.Need-mul-l Inv-loop μ-loop
-mul-l c =
-    let s = c .before .before in
-    omega (arith, passes (s .args .t1) (s .pre) .count-most)
+mul-l c = omega (arith, c .before .before .lower .ensures)
 
 element-copy-out-l : tie.Need-element-copy-out-l Inv-loop μ-loop
-element-copy-out-l c =
-    let s = c .before .before in
-    omega (arith, passes (s .args .t1) (s .pre) .count-most)
+element-copy-out-l c = omega (arith, c .before .before .lower .ensures)
 
 put-arc-requires : tie.Need-put-arc-requires Inv-loop μ-loop
 put-arc-requires c κs = search needs
@@ -93,13 +92,16 @@ loop-again c =
     let put = c .before .before in
     let turn = put .before .before .before in
     let s = turn .before .before in
-    let l = turn .before .loop in
-    (omega arith, next-before (s .args .t1) (s .pre) (l .k) (turn .loop-test .taken) (l .inv .1) (put .put-arc .ensures) (c .put-arc2 .ensures))
+    let l = turn .before .loop in (
+      omega arith,
+      λ ok. next-before (s .before .args .t1) ok (l .k) (omega (arith, s .lower .ensures)) (l .inv .1 ok) (put .put-arc .ensures) (c .put-arc2 .ensures),
+    )
 
 returns : tie.Need-returns Inv-loop μ-loop
-returns c =
+returns c ok =
+    let s = c .before .before in
     let l = c .before .loop in
-    same-ways (l .inv .1) bothWays (λ i d h. (λ _. lt-ltb i (l .k) (omega arith), λ _. refl))
+    same-ways (l .inv .1 ok) bothWays (λ i d h. (λ _. lt-ltb i (l .k) (omega (arith, s .lower .ensures, passes (s .before .args .t1) ok .count-most)), λ _. refl))
 
 pub all-ways-spec : {M : Type 1} → statement M
 all-ways-spec =
@@ -107,7 +109,8 @@ all-ways-spec =
     (tie.spec
     Inv-loop
     μ-loop
-    cast-count
+    cast-lower
+    lower-requires
     loop-holds
     mul-l
     element-copy-out-l
