@@ -1,3 +1,4 @@
 pub mod Arcs
 pub mod Chain
 pub mod Steps
+pub mod Walk

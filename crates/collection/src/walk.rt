@@ -53,9 +53,9 @@ fn visit(
     ensures { λ r. ⌜ Visited (netOfArcs (length (now (seen .entry))) links (now (to .entry))) u place
         (now (seen .entry)) (now (tree .entry)) (now (out .entry)) r (now (seen .exit)) (now (tree .exit)) (now (out .exit)) ⌝ }
 {
-    seen[node(u)] = true;
+    seen[u as usize] = true;
     out[place] = u;
-    let arc = arc_number(next[HEADS + node(u)]);
+    let arc = arc_number(next[HEADS + u as usize]);
     follow(next, to, links, u, arc, place + 1, seen, tree, out)
 }
 

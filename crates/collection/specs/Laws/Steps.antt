@@ -185,7 +185,7 @@ module _ (next to : List ℕ) (links : ℕ) where
             let G = net (length seen) in
             to-next
             ∙ subst (λ (w : ℕ). follow G (a / 2) u seen ≡ branch (a / 2) w (visit G w seen) (follow G (a / 2 + 1) u (visited (visit G w seen) (set seen w true))))
-                (leaves-far (length seen) links to leaves h) (follow-take G F u seen refl (a / 2) h opened)
+            (leaves-far (length seen) links to leaves h) (follow-take G F u seen refl (a / 2) h opened)
             ∙ ap (λ (s : List Bool). branch (a / 2) (at to a) (visit G (at to a) seen) (follow G (a / 2 + 1) u s)) (sym (A .nodes))
             ∙ ap (λ (T : Tree). branch (a / 2) (at to a) (visit G (at to a) seen) T) (to-head G F u s₁ sized after)
 

@@ -2,6 +2,7 @@
 -- the untried links besides. What is asked and given at each call is proved in specs/Laws/Steps.antt; here the paths are handed over.
 use Prim.Native.Nat.{ℕ, _/_, _≤_, _<_}
 use mathlib.Core.Path.{_≡_, refl, _∙_}
+use mathlib.Core.Bool.{true}
 use native.Mathlib.Omega.{arith}
 use lib.ListN.{length, length-set}
 use denote.Ref.{now}
@@ -32,7 +33,6 @@ use Rattle.collection.proofs.walk.visit.Kinds as visit-kinds
 use Rattle.collection.proofs.walk.+follow+visit.Lts-visit as visit-lts
 use Rattle.collection.proofs.walk.arc_number.Reads as arc-number-reads
 use Rattle.collection.proofs.walk.next_new.Reads as next-new-reads
-use Rattle.collection.proofs.walk.node.Reads as node-reads
 use Rattle.collection.proofs.walk.+follow+visit.{statement}
 use Rattle.collection.proofs.walk.+follow+visit.Tie.{close}
 
@@ -76,8 +76,6 @@ follow-calls t = (
 
 abbrev visit-calls : ℕ → visit-lts.Claims
 visit-calls t = (
-  node-reads.Asked,
-  node-reads.Learnt,
   arc-number-reads.Asked,
   arc-number-reads.Learnt,
   follow-below t,
@@ -145,77 +143,127 @@ module _ (t : ℕ) where
         let a = start .args in
         again-room (now (a .next)) (now (a .to)) (a .links) (start .pre .1) (searched .next-new .ensures) (b .before .before .before .before .before .if1 .left) (b .visit .ensures)
 
+    -- its arc, and the arcs after it
+    arc-of : searched .next-new .result < 512
+    arc-of =
+        let a = start .args in
+        take-arc (now (a .next)) (now (a .to)) (a .links) (start .pre .1) (searched .next-new .ensures) (b .before .before .before .before .before .if1 .left)
+
   follow-slice-write-out : follow-lts.Need-slice-write-out (follow-calls t) (follow-at t) follow.Post
   follow-slice-write-out c = one-more (c .before .before .before .before)
 
   follow-mul-arc-number : follow-lts.Need-mul-arc-number (follow-calls t) (follow-at t) follow.Post
-  follow-mul-arc-number c = ?mul
+  follow-mul-arc-number c = omega (arith, arc-of (c .before .before .before .before))
 
   follow-element-copy-out-arc-number : follow-lts.Need-element-copy-out-arc-number (follow-calls t) (follow-at t) follow.Post
-  follow-element-copy-out-arc-number c = ?copy
+  follow-element-copy-out-arc-number c = omega (arith, arc-of (c .before .before .before .before))
 
   follow-arc-number-requires : follow-lts.Need-arc-number-requires (follow-calls t) (follow-at t) follow.Post
   follow-arc-number-requires c κs = search needs
 
   follow-add-follow : follow-lts.Need-add-follow (follow-calls t) (follow-at t) follow.Post
-  follow-add-follow c = ?add
+  follow-add-follow c = let h = one-more (c .before .before .before .before .before .before) in omega arith
 
   follow-follow-requires : follow-lts.Need-follow-requires (follow-calls t) (follow-at t) follow.Post
-  follow-follow-requires c κs = ?freq
+  follow-follow-requires c κs =
+      let n = c .before .before .before in
+      let b = n .before .before .before .before .before .before in
+      let f = b .before .before .before .before .before .before in
+      let s = f .before .before .before .before in
+      let a = s .args in
+      let N = f .next-new .ensures in
+      let h = b .before .before .before .before .before .if1 .left in (
+        rw (n .arc-number .ensures) (fallen (s .pre .0) (again-falls (now (a .next)) (now (a .to)) (a .links) (s .pre .1) N h (b .visit .ensures))),
+        rw (n .arc-number .ensures) (again-can-follow (now (a .next)) (now (a .to)) (a .links) (s .pre .1) N h (b .visit .ensures)),
+      )
 
   follow-same-length-2 : follow-lts.Need-same-length-2 (follow-calls t) (follow-at t) follow.Post
-  follow-same-length-2 c = ?same2
+  follow-same-length-2 c =
+      let f = c .before .before .before .before in
+      let b = f .before .before .before .before .before .before .before .before .before .before in
+      f .follow .kept .1 .1 .1 .1 .1 .1 .0 ∙ b .visit .kept .1 .1 .1 .1 .1 .0
 
   follow-same-length-3 : follow-lts.Need-same-length-3 (follow-calls t) (follow-at t) follow.Post
-  follow-same-length-3 c = ?same3
+  follow-same-length-3 c =
+      let f = c .before .before .before .before in
+      let b = f .before .before .before .before .before .before .before .before .before .before in
+      f .follow .kept .1 .1 .1 .1 .1 .1 .1 .1 .0
+      ∙ length-set (b .visit .last .1 .1 .1 .1 .1 .1 .1 .0) (b .visit .result) (start b .args .u)
+      ∙ b .visit .kept .1 .1 .1 .1 .1 .1 .1 .0
 
   follow-returns-2 : follow-lts.Need-returns-2 (follow-calls t) (follow-at t) follow.Post
-  follow-returns-2 c = ?ret2
+  follow-returns-2 c =
+      let f = c .before .before .before .before in
+      let n = f .before .before .before .before in
+      let b = n .before .before .before .before .before .before in
+      let s = start b in
+      let a = s .args in
+      again-walked (now (a .next)) (now (a .to)) (a .links) (s .pre .1) (searched b .next-new .ensures) (b .before .before .before .before .before .if1 .left)
+      (b .visit .ensures) (a .tree .now) refl (rw (n .arc-number .ensures) at (f .follow .ensures))
 
 -- ---- visit
 
 module _ (t : ℕ) where
-  visit-node-requires : visit-lts.Need-node-requires (visit-calls t) (visit-at t) visit.Post
-  visit-node-requires c κs = search needs
+  -- the visited node is below 64, and has an entry for its first arc
+  below : (s : visit-lts.Start (visit-calls t) (visit-at t) visit.Post) → s .args .u < 64
+  below s = omega (arith, s .pre .1 .inside, s .pre .1 .can .few-nodes)
 
   visit-slice-write-seen : visit-lts.Need-slice-write-seen (visit-calls t) (visit-at t) visit.Post
-  visit-slice-write-seen c = rw (c .node .ensures) (c .before .before .before .pre .1 .inside)
+  visit-slice-write-seen c = c .before .before .pre .1 .inside
 
   visit-slice-write-out : visit-lts.Need-slice-write-out (visit-calls t) (visit-at t) visit.Post
   visit-slice-write-out c =
-      let s = c .before .before .before in
+      let s = c .before .before in
       let a = s .args in
       visit-room (now (a .next)) (now (a .to)) (a .links) (s .pre .1)
 
-  visit-node-requires-2 : visit-lts.Need-node-requires-2 (visit-calls t) (visit-at t) visit.Post
-  visit-node-requires-2 c κs = search needs
-
   visit-add-arc-number : visit-lts.Need-add-arc-number (visit-calls t) (visit-at t) visit.Post
-  visit-add-arc-number c = ?vadd
+  visit-add-arc-number c = omega (arith, below (c .before .before))
 
   visit-mul-arc-number : visit-lts.Need-mul-arc-number (visit-calls t) (visit-at t) visit.Post
-  visit-mul-arc-number c = ?vmul
+  visit-mul-arc-number c = omega (arith, below (c .before .before))
 
   visit-element-copy-out-arc-number : visit-lts.Need-element-copy-out-arc-number (visit-calls t) (visit-at t) visit.Post
-  visit-element-copy-out-arc-number c = ?vcopy
+  visit-element-copy-out-arc-number c = omega (arith, below (c .before .before))
 
   visit-arc-number-requires : visit-lts.Need-arc-number-requires (visit-calls t) (visit-at t) visit.Post
   visit-arc-number-requires c κs = search needs
 
   visit-add-follow : visit-lts.Need-add-follow (visit-calls t) (visit-at t) visit.Post
-  visit-add-follow c = ?vaddf
+  visit-add-follow c =
+      let s = c .before .before .before .before in
+      let a = s .args in
+      let room = visit-room (now (a .next)) (now (a .to)) (a .links) (s .pre .1) in
+      omega arith
 
   visit-follow-requires : visit-lts.Need-follow-requires (visit-calls t) (visit-at t) visit.Post
-  visit-follow-requires c κs = ?vfreq
+  visit-follow-requires c κs =
+      let n = c .before .before .before in
+      let s = n .before .before .before .before in
+      let a = s .args in (
+        rw (n .arc-number .ensures) (fallen (s .pre .0) (visit-falls (now (a .next)) (now (a .to)) (a .links) (s .pre .1))),
+        rw (n .arc-number .ensures) (visit-can-follow (now (a .next)) (now (a .to)) (a .links) (s .pre .1)),
+      )
 
   visit-same-length : visit-lts.Need-same-length (visit-calls t) (visit-at t) visit.Post
-  visit-same-length c = ?vsame
+  visit-same-length c =
+      let f = c .before .before .before .before in
+      let a = f .before .before .before .before .before .before .before .before .args in
+      f .follow .kept .1 .1 .1 .1 .1 .1 .0 ∙ length-set (a .seen .now) (a .u) true
 
   visit-same-length-2 : visit-lts.Need-same-length-2 (visit-calls t) (visit-at t) visit.Post
-  visit-same-length-2 c = ?vsame2
+  visit-same-length-2 c =
+      let f = c .before .before .before .before in
+      let a = f .before .before .before .before .before .before .before .before .args in
+      f .follow .kept .1 .1 .1 .1 .1 .1 .1 .1 .0 ∙ length-set (a .out .now) (a .place) (a .u)
 
   visit-returns : visit-lts.Need-returns (visit-calls t) (visit-at t) visit.Post
-  visit-returns c = ?vret
+  visit-returns c =
+      let f = c .before .before .before .before in
+      let n = f .before .before .before .before in
+      let s = n .before .before .before .before in
+      let a = s .args in
+      visit-walked (now (a .next)) (now (a .to)) (a .links) (s .pre .1) (rw (n .arc-number .ensures) at (f .follow .ensures))
 
 pub +follow+visit-spec : {M : Type 1} → statement M
 +follow+visit-spec =
@@ -237,10 +285,8 @@ pub +follow+visit-spec : {M : Type 1} → statement M
     (follow-same-length-3 t)
     (follow-returns-2 t))
     (λ t. visit-lts.spec (visit-calls t) (visit-at t) visit.Post
-    (visit-node-requires t)
     (visit-slice-write-seen t)
     (visit-slice-write-out t)
-    (visit-node-requires-2 t)
     (visit-add-arc-number t)
     (visit-mul-arc-number t)
     (visit-element-copy-out-arc-number t)
