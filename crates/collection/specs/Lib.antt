@@ -1,3 +1,5 @@
+pub mod Collection
+pub mod Meaning
 pub mod Arcs
 pub mod Walked
 pub mod Laws
