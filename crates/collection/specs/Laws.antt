@@ -4,3 +4,4 @@ pub mod Steps
 pub mod Walk
 pub mod Folded
 pub mod Collecting
+pub mod Query

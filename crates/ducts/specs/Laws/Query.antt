@@ -7,23 +7,17 @@ use mathlib.Core.List.{List}
 use borrow.Author.Tests.{ltb-true, ltb-false, leb-true, leb-false, lt-ltb, le-ltb, le-leb, lt-leb}
 use lib.Dec.{ltb, leb}
 use lib.ListN.{length, take, drop}
-use lib.Seq.{take-append-seam, drop-append-seam}
 use Rattle.scan.specs.Test.{branch}
 use Rattle.mesh.specs.declared.Mesh.{Mesh}
 use Rattle.mesh.specs.declared.Answer.{Answer}
 use Rattle.mesh.specs.declared.Answer.the-variants.{Accepted, Refused}
 use Rattle.mesh.specs.Mesh.{meshAnswer}
-use Rattle.mesh.specs.Laws.Answer.{Tells, accepting, refusing, told-accepted, told-refused, tells-andThen}
+use Rattle.mesh.specs.Laws.Answer.{Tells, accepting, refusing, tells-itself, told-accepted, told-refused, tells-andThen, output-written, output-kept}
 use Rattle.ducts.specs.Sharing.{sharing, sharingAnswer, sharedAs, shared, outputAfter}
 use Rattle.ducts.specs.Meaning.{Lists, Refusal, mesh-refused, no-such-link, output-short}
 use Rattle.ducts.specs.Laws.Sharing.{sharing-lists}
 
 -- ---- the answer
-
--- an answer tells of itself
-itself : (a : Answer) → Tells (a ≡ Accepted) (λ number place. a ≡ Refused number place) a
-itself Accepted = accepting refl
-itself (Refused number place) = refusing refl
 
 -- the mesh passes its checks, the link is one of it, and the list fits
 abbrev Passed : Mesh → ℕ → ℕ → Type 0
@@ -32,7 +26,7 @@ Passed m k room = (meshAnswer m ≡ Accepted) × (k < m .count) × (length (shar
 told : (m : Mesh) (k room : ℕ) → Tells (Passed m k room) (Refusal m k room) (sharingAnswer m k room)
 unfolding sharingAnswer
 told m k room =
-    tells-andThen (itself (meshAnswer m))
+    tells-andThen (tells-itself (meshAnswer m))
     (λ e. branch (Tells (Passed m k room) (Refusal m k room)) (ltb k (m .count))
     (λ b. branch (Tells (Passed m k room) (Refusal m k room)) (leb (length (sharing m k)) room)
     (λ c. accepting (e, ltb-true _ _ b, leb-true _ _ c))
@@ -91,7 +85,8 @@ module _ (m : Mesh) (k : ℕ) (out : List ℕ) where
   unfolding shared outputAfter
   accepted-writes e =
       let a : sharingAnswer m k (length out) ≡ Accepted = sym (answered m k (length out)) ∙ e in
-      (rw a, rw a (take-append-seam (sharing m k) _), rw a (drop-append-seam (sharing m k) _))
+      let (written, kept) = output-written a (sharing m k) out in
+      (rw a, written, kept)
 
   -- so what is told to be written lists exactly the links that share the duct
   pub accepted-lists : shared m k (length out) .answer ≡ Accepted → Lists m k (take (shared m k (length out) .count) (outputAfter m k out))
@@ -102,9 +97,7 @@ module _ (m : Mesh) (k : ℕ) (out : List ℕ) where
   -- a refusal leaves it as it was
   pub refused-keeps : (number place : ℕ) → shared m k (length out) .answer ≡ Refused number place → outputAfter m k out ≡ out
   unfolding outputAfter
-  refused-keeps number place e =
-      let a : sharingAnswer m k (length out) ≡ Refused number place = sym (answered m k (length out)) ∙ e in
-      rw a
+  refused-keeps number place e = output-kept (sym (answered m k (length out)) ∙ e) (sharing m k) out
 
   -- it counts none, and leaves the output as it was
   pub refusal-told : (number place : ℕ) → shared m k (length out) .answer ≡ Refused number place

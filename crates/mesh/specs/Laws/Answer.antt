@@ -2,10 +2,13 @@
 use Prim.Native.Nat.{ℕ}
 use mathlib.Core.Path.{_≡_, refl}
 use mathlib.Core.Bool.{Bool, true, false}
+use mathlib.Core.List.{List}
 use native.Mathlib.Omega.{arith}
+use lib.ListN.{length, take, drop}
+use lib.Seq.{take-append-seam, drop-append-seam}
 use Rattle.mesh.specs.declared.Answer.{Answer}
 use Rattle.mesh.specs.declared.Answer.the-variants.{Accepted, Refused}
-use Rattle.mesh.specs.Mesh.{must, andThen}
+use Rattle.mesh.specs.Mesh.{must, andThen, outputAs}
 
 -- no answer is both
 pub refused-accepted {ℓ} : {A : Type ℓ} {number place : ℕ} → Refused number place ≡ Accepted → A
@@ -23,6 +26,11 @@ andThen-accepted (Refused number place) next e = refused-accepted e
 pub data Tells (A : Type 0) (R : ℕ → ℕ → Type 0) : Answer → Type 0 where
   accepting : A → Tells A R Accepted
   refusing : {number place : ℕ} → R number place → Tells A R (Refused number place)
+
+-- an answer tells of itself
+pub tells-itself : (a : Answer) → Tells (a ≡ Accepted) (λ number place. a ≡ Refused number place) a
+tells-itself Accepted = accepting refl
+tells-itself (Refused number place) = refusing refl
 
 module _ {A : Type 0} {R : ℕ → ℕ → Type 0} where
   pub told-accepted : Tells A R Accepted → A
@@ -46,3 +54,14 @@ module _ {A : Type 0} {R : ℕ → ℕ → Type 0} where
         → Tells B S (andThen a next)
     tells-andThen (accepting x) f g = f x
     tells-andThen (refusing r) f g = refusing (g _ _ r)
+
+-- ---- what an output holds after a call
+
+-- what was written, and past it the entries as they were
+pub output-written : {a : Answer} → a ≡ Accepted → (written out : List ℕ)
+    → (take (length written) (outputAs a written out) ≡ written) × (drop (length written) (outputAs a written out) ≡ drop (length written) out)
+output-written e written out = (rw e (take-append-seam written _), rw e (drop-append-seam written _))
+
+-- on a refusal all as it was
+pub output-kept : {a : Answer} {number place : ℕ} → a ≡ Refused number place → (written out : List ℕ) → outputAs a written out ≡ out
+output-kept e written out = rw e
