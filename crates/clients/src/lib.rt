@@ -2,6 +2,7 @@
 // than its definition would break the proof of its client here.
 pub mod book;
 pub mod duct;
+pub mod route;
 pub mod session;
 
 use codec::Decoded;

@@ -21,7 +21,8 @@ use Rattle.mesh.specs.Laws.Answer.{Tells, accepting, refusing, tells-itself, to
 use Rattle.nets.specs.Nets.{netOf}
 use Rattle.nets.specs.Laws.Fits.{fits}
 use Rattle.nets.specs.Laws.NoPath.{any-unreached, no-path-any, no-path-lowest}
-use Rattle.collection.specs.Collection.{noLabels, routeOf, labelsOf, needed, collectAnswer, collectedAs, collected, outputAfter}
+use Rattle.depth_first.specs.Folded.{Folded}
+use Rattle.collection.specs.Collection.{noLabels, treeOf, routeOf, labelsOf, needed, collectAnswer, collectedAs, collected, outputAfter}
 use Rattle.collection.specs.Meaning.{Connected, Refusal, mesh-refused, no-such-root, no-path, output-short}
 use Rattle.collection.specs.Laws.Folded.{collects}
 
@@ -101,6 +102,14 @@ module _ (m : Mesh) (root : ℕ) (out : List ℕ) where
       let n = collects m r ok root l c .entries in
       let (written, kept) = output-written a (routeOf m root) out in
       (rw a, rw a n, rw (← n) written, rw (← n) kept)
+
+  -- so of what is told to be written, and of the labels, all holds that 02 says
+  pub accepted-collects : InRange m → collected m root (length out) .answer ≡ Accepted
+      → Folded (netOf m) root (treeOf m root) (take (collected m root (length out) .count) (outputAfter m root out)) (collected m root (length out) .tree)
+  accepted-collects r e =
+      let (labels, n, written, kept) = accepted-writes r e in
+      let (ok, l, c, s) = accepted-only m root (length out) e in
+      rw (labels, n, written) (collects m r ok root l c)
 
   -- on a refusal no link is labelled, no entry counted, and the output as it was
   pub refusal-told : (number place : ℕ) → collected m root (length out) .answer ≡ Refused number place
