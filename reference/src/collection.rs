@@ -19,6 +19,12 @@ pub const NO_TREE: Labels = [false; MOST_LINKS];
 /// The entries of the longest route.
 pub const MOST_ENTRIES: usize = 2 * MOST_NODES as usize - 1;
 
+/// The numbers of the tree links, rising.
+pub fn tree_links(tree: &Labels) -> impl Iterator<Item = u16> + '_ {
+    let numbered = (0..).zip(tree);
+    numbered.filter(|(_, label)| **label).map(|(link, _)| link)
+}
+
 /// Writes the route from the root to the front of the output, and gives the
 /// labels and how many entries the route has. Entries past the route stay; a
 /// refusal leaves the whole output.
@@ -53,7 +59,7 @@ mod tests {
     const FILL: u8 = 165;
 
     /// Accepted with exactly this route and these tree links.
-    fn assert_gives(mesh: &Mesh, root: u8, route: &[u8], links: &[usize]) {
+    fn assert_gives(mesh: &Mesh, root: u8, route: &[u8], links: &[u16]) {
         let needed = route.len();
         for room in [needed, needed + 1, needed + 90] {
             let mut output = vec![FILL; room];
@@ -62,8 +68,7 @@ mod tests {
             assert_eq!(output[..needed], *route);
             // "Output entries past the route stay untouched."
             assert!(output[needed..].iter().all(|entry| *entry == FILL));
-            let labelled = (0..MOST_LINKS).filter(|link| tree[*link]);
-            assert_eq!(labelled.collect::<Vec<usize>>(), links);
+            assert_eq!(tree_links(&tree).collect::<Vec<u16>>(), links);
         }
         assert_refuses(mesh, root, needed - 1, Reason::OutputShort, needed);
     }
@@ -81,7 +86,7 @@ mod tests {
         nodes.clone().chain(nodes.rev().skip(1)).collect()
     }
 
-    fn all(links: usize) -> Vec<usize> {
+    fn all(links: u16) -> Vec<u16> {
         (0..links).collect()
     }
 
@@ -124,7 +129,7 @@ mod tests {
     fn paths_of_up_to_64_nodes() {
         for nodes in 2..=64 {
             let path = plain(nodes, &shapes::path(nodes));
-            let links = all(usize::from(nodes) - 1);
+            let links = all(u16::from(nodes) - 1);
             assert_gives(&path, 0, &there_and_back(0..nodes), &links);
             let turned = there_and_back((0..nodes).rev());
             assert_gives(&path, nodes - 1, &turned, &links);
@@ -158,8 +163,9 @@ mod tests {
                 let met: Vec<u8> = [root].into_iter().chain(others).collect();
                 let step = |two: &[u8]| (two[0].min(two[1]), two[0].max(two[1]));
                 let steps: Vec<(u8, u8)> = met.windows(2).map(step).collect();
-                let links = (0..ends.len()).filter(|link| steps.contains(&ends[*link]));
-                let links: Vec<usize> = links.collect();
+                let numbered = (0..).zip(&ends);
+                let links = numbered.filter(|(_, ends)| steps.contains(ends));
+                let links: Vec<u16> = links.map(|(link, _)| link).collect();
                 assert_gives(&mesh, root, &there_and_back(met.into_iter()), &links);
             }
         }

@@ -46,18 +46,17 @@ pub fn walk(mesh: &Mesh, root: u8, route: &mut [u8]) -> Labels {
 
 #[cfg(test)]
 mod tests {
+    use super::super::tree_links;
     use super::*;
     use crate::corpus::meshes::plain;
     use crate::corpus::shapes::{ears, ring, Shape};
-    use crate::mesh::MOST_LINKS;
     use crate::random::Random;
 
     /// The route of a mesh, and the numbers of the tree links.
-    fn walked(nodes: u8, shape: &[(u8, u8)], root: u8) -> (Vec<u8>, Vec<usize>) {
+    fn walked(nodes: u8, shape: &[(u8, u8)], root: u8) -> (Vec<u8>, Vec<u16>) {
         let mut route = vec![255; 2 * usize::from(nodes) - 1];
         let tree = walk(&plain(nodes, shape), root, &mut route);
-        let links = (0..MOST_LINKS).filter(|link| tree[*link]);
-        (route, links.collect())
+        (route, tree_links(&tree).collect())
     }
 
     /// Each link of the shape as often as `times` says.
@@ -86,8 +85,8 @@ mod tests {
             let more = repeated(&once, || random.between(1, 3));
             let (route, tree) = walked(nodes, &once, root);
             // The first link of `more` with the same ends.
-            let lowest = |link: usize| more.partition_point(|ends| *ends < once[link]);
-            let lowest: Vec<usize> = tree.into_iter().map(lowest).collect();
+            let lowest = |link| more.partition_point(|ends| *ends < once[usize::from(link)]);
+            let lowest: Vec<u16> = tree.into_iter().map(|link| lowest(link) as u16).collect();
             assert_eq!(walked(nodes, &more, root), (route, lowest));
         }
     }
