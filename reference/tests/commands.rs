@@ -147,6 +147,24 @@ fn digging_writes_the_input_of_dig() {
 }
 
 #[test]
+fn collecting_writes_the_input_of_bus() {
+    let input = run(&["collecting", "2"], &P5).stdout;
+    assert_eq!(input, [b"\x0d\0", &P5[..], b"\x02"].concat());
+    let expected = "collect 2 accepted 7\nroute 2 0 1 0 3 0 2\n\
+        link 0 0 1 0 0 0\nlink 1 0 2 0 0 0\nlink 2 0 3 0 0 0\n";
+    assert_eq!(run(&["bus"], &input).stdout, expected.as_bytes());
+    let input = run(&["collecting", "4"], &P5).stdout;
+    assert_eq!(run(&["bus"], &input).stdout, b"collect 4 refused 6 0\n");
+    assert!(!run(&["bus"], b"\0").status.success());
+    for words in [&["collecting"][..], &["collecting", "256"]] {
+        let output = run(words, b"");
+        assert_eq!(output.status.code(), Some(2));
+        assert!(output.stdout.is_empty());
+        assert!(output.stderr.starts_with(b"root"));
+    }
+}
+
+#[test]
 fn expect_lists_a_planning() {
     let output = run(&["expect"], b"P\x03\x03\0\0\x01\0\x02\x01\x02");
     let expected = "planning 0 3 3\nplan accepted\ndirections 010\nrest 0\n";
