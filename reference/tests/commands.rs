@@ -32,6 +32,18 @@ fn bench_prints_the_last_result() {
 }
 
 #[test]
+fn bench_collects_from_each_root_in_turn() {
+    // P5 from nodes 0 to 3: 0 1 2 3 2 1 0, 1 0 2 3 2 0 1, 2 0 1 0 3 0 2 and
+    // 3 0 1 2 1 0 3.
+    for (repeats, sum) in [(1, 36), (2, 36), (3, 34), (4, 40), (5, 36), (70_003, 34)] {
+        let expected = format!("B accepted 7 3 {sum}\n");
+        assert_prints(b'B', repeats, &P5, &expected);
+    }
+    // A tree is collected too.
+    assert_prints(b'B', 4, &[1, 2, 1, 0, 0], "B accepted 3 1 4\n");
+}
+
+#[test]
 fn bench_prints_the_route_length_of_the_last_repeat() {
     // The route after the cut of link 2 has links 0 and 1, of 10 and 20 metres.
     // Link 0 has 1 metre in every other repeat.
@@ -55,8 +67,9 @@ fn bench_prints_refusals() {
     assert_prints(b'L', 3, &[1, 2, 1, 0, 0], "L refused 21 0\n");
     assert_prints(b'U', 3, &[1, 2, 1, 0, 0], "U refused 21 0\n");
     assert_prints(b'V', 3, &[1, 2, 1, 0, 0], "V refused 21 0\n");
+    assert_prints(b'B', 3, &[1, 2, 0, 0], "B refused 20 1\n");
     assert_prints(b'E', 3, &[1, 2, 0, 0], "E 4\n");
-    for job in *b"DEPTRSLUV" {
+    for job in *b"DEPTRSLUVB" {
         assert_prints(job, 3, &[1, 2, 0], "refused 1 3\n");
     }
 }
