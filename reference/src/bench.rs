@@ -1,5 +1,6 @@
 //! Does one job many times, so that its time can be measured from outside.
 
+mod collections;
 mod sessions;
 
 use std::hint::black_box;
@@ -24,6 +25,7 @@ pub const CUT: u8 = b'C';
 pub const DELIVER: u8 = b'L';
 pub const STATUS: u8 = b'U';
 pub const STATUS_AT_REST: u8 = b'V';
+pub const COLLECT: u8 = b'B';
 
 /// A planner: gives the plan of a mesh.
 type Planner = fn(&Mesh) -> (Plan, Answer);
@@ -64,6 +66,7 @@ fn repeat(job: u8, repeats: u32, book: &[u8], mesh: Mesh) -> Result<String, Stri
         DELIVER => Ok(sessions::delivery_line(repeats, &mesh)),
         STATUS => Ok(sessions::status_line(repeats, &mesh)),
         STATUS_AT_REST => Ok(sessions::status_at_rest_line(repeats, &mesh)),
+        COLLECT => Ok(collections::collect_line(repeats, &mesh)),
         _ => Err(format!("unknown job {job}")),
     }
 }

@@ -13,11 +13,13 @@ const SCRIPT: u8 = b'S';
 const LISTING: u8 = b'L';
 const UPGRADE: u8 = b'U';
 const DUCTS: u8 = b'D';
+const COLLECTION: u8 = b'C';
 
 /// The greatest room of a case and the greatest length of its book.
 pub const MOST_BYTES: usize = 2_900;
 
-/// The greatest number of entries of a duct query's output.
+/// The greatest number of entries of the output of a duct query or a collection
+/// route.
 pub const MOST_ENTRIES: usize = 300;
 
 #[derive(Clone, Debug, PartialEq, Eq)]
@@ -42,6 +44,13 @@ pub enum Case {
         link: u16,
         mesh: Box<Mesh>,
     },
+    /// A collection route: the number of the output's entries, the root and the
+    /// mesh record.
+    Collection {
+        room: u16,
+        root: u8,
+        mesh: Box<Mesh>,
+    },
 }
 
 /// The bytes of a corpus, one case after the other.
@@ -51,8 +60,7 @@ pub fn write_cases(cases: &[Case]) -> Vec<u8> {
         match case {
             Case::Book { room, link, book } => write_book(*room, *link, book, &mut output),
             Case::Mesh { room, mesh } => {
-                output.push(MESH);
-                output.extend(room.to_le_bytes());
+                write_room(MESH, *room, &mut output);
                 write_mesh(mesh, &mut output);
             }
             Case::Planning { mesh } => write_planning(mesh, &mut output),
@@ -69,9 +77,13 @@ pub fn write_cases(cases: &[Case]) -> Vec<u8> {
                 write_upgrade(upgrade, &mut output);
             }
             Case::Ducts { room, link, mesh } => {
-                output.push(DUCTS);
-                output.extend(room.to_le_bytes());
+                write_room(DUCTS, *room, &mut output);
                 output.extend(link.to_le_bytes());
+                write_mesh(mesh, &mut output);
+            }
+            Case::Collection { room, root, mesh } => {
+                write_room(COLLECTION, *room, &mut output);
+                output.push(*root);
                 write_mesh(mesh, &mut output);
             }
         }
@@ -79,9 +91,14 @@ pub fn write_cases(cases: &[Case]) -> Vec<u8> {
     output
 }
 
-fn write_book(room: u16, link: u16, book: &[u8], output: &mut Vec<u8>) {
-    output.push(BOOK);
+/// The letter of a case, and the output's size.
+fn write_room(letter: u8, room: u16, output: &mut Vec<u8>) {
+    output.push(letter);
     output.extend(room.to_le_bytes());
+}
+
+fn write_book(room: u16, link: u16, book: &[u8], output: &mut Vec<u8>) {
+    write_room(BOOK, room, output);
     output.extend(link.to_le_bytes());
     write_bytes(book, output);
 }
@@ -121,6 +138,7 @@ fn read_case(reader: &mut Reader) -> Option<Case> {
         LISTING => read_bytes(reader).map(|book| Case::Listing { book }),
         UPGRADE => read_upgrade(reader).map(|upgrade| Case::Upgrade(Box::new(upgrade))),
         DUCTS => read_ducts(reader),
+        COLLECTION => read_collection(reader),
         _ => None,
     }
 }
@@ -143,13 +161,24 @@ fn read_record(reader: &mut Reader) -> Option<Case> {
     Some(Case::Mesh { room, mesh })
 }
 
-/// None if the output is too large.
 fn read_ducts(reader: &mut Reader) -> Option<Case> {
-    let room = reader.two()?;
+    let room = read_entries(reader)?;
     let link = reader.two()?;
     let mesh = read_mesh(reader)?;
-    let fits = usize::from(room) <= MOST_ENTRIES;
-    fits.then_some(Case::Ducts { room, link, mesh })
+    Some(Case::Ducts { room, link, mesh })
+}
+
+fn read_collection(reader: &mut Reader) -> Option<Case> {
+    let room = read_entries(reader)?;
+    let root = reader.one()?;
+    let mesh = read_mesh(reader)?;
+    Some(Case::Collection { room, root, mesh })
+}
+
+/// The number of an output's entries; none if it is too large.
+fn read_entries(reader: &mut Reader) -> Option<u16> {
+    let room = reader.two()?;
+    (usize::from(room) <= MOST_ENTRIES).then_some(room)
 }
 
 fn read_planning(reader: &mut Reader) -> Option<Case> {

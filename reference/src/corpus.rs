@@ -2,6 +2,7 @@
 
 pub mod accepted;
 pub mod changed;
+pub mod collections;
 pub mod draft;
 pub mod ducts;
 pub mod faults;
@@ -30,8 +31,8 @@ use crate::case::Case;
 use crate::random::Random;
 
 /// All cases of the corpus: books first, then mesh records, then plannings,
-/// then scripts, then books to list, then old sessions, then duct queries. Those
-/// about ducts are drawn aside.
+/// then scripts, then books to list, then old sessions, then duct queries, then
+/// collection routes. Those about ducts are drawn aside.
 pub fn make(seed: u64) -> Vec<Case> {
     let mut random = Random::new(seed);
     let mut aside = random.aside();
@@ -55,6 +56,7 @@ pub fn make(seed: u64) -> Vec<Case> {
     cases.extend(listings::cases(&mut random));
     cases.extend(upgrades::cases(seed));
     cases.extend(ducts::queries::cases(&mut aside));
+    cases.extend(collections::cases(seed));
     cases
 }
 

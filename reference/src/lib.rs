@@ -5,6 +5,7 @@ pub mod arcs;
 pub mod bench;
 pub mod book;
 pub mod case;
+pub mod collection;
 pub mod corpus;
 pub mod digest;
 pub mod ducts;

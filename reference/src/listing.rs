@@ -1,5 +1,6 @@
 //! The expected listing of a corpus.
 
+pub mod collections;
 pub mod ducts;
 #[cfg(test)]
 mod expected;
@@ -32,6 +33,7 @@ pub fn listing(cases: &[Case]) -> Result<String, String> {
             Case::Listing { book } => lines.listed(number, book),
             Case::Upgrade(upgrade) => lines.upgrade(number, upgrade),
             Case::Ducts { room, link, mesh } => lines.ducts(number, *room, *link, mesh),
+            Case::Collection { room, root, mesh } => lines.collection(number, *room, *root, mesh),
         }
     }
     Ok(lines.text)

@@ -6,9 +6,11 @@
 //! writes what the program `show` prints; `reference digging link LINK` and
 //! `reference digging duct DUCT` read a book and write the input of the program
 //! `dig` for this book and this link or duct; `reference dig` reads such an
-//! input and writes what `dig` prints; `reference meshplan` reads a book and
-//! lists its mesh, its plan and every cut; `reference book` reads a text table
-//! and writes its book;
+//! input and writes what `dig` prints; `reference collecting ROOT` reads a book
+//! and writes the input of the program `bus` for this book and this root;
+//! `reference bus` reads such an input and writes what `bus` prints;
+//! `reference meshplan` reads a book and lists its mesh, its plan and every cut;
+//! `reference book` reads a text table and writes its book;
 //! `reference table` reads a book and writes its text table;
 //! `reference bench` repeats a job on a book; `reference time BENCH MESHPLAN`
 //! measures two programs with the same input and output as `reference bench`
@@ -21,6 +23,7 @@ use std::process::ExitCode;
 
 use reference::book::{bytes_of, decode};
 use reference::case::{read_cases, write_cases, MOST_BYTES};
+use reference::programs::bus::root_of;
 use reference::programs::dig::{dig_of, Dig};
 use reference::refusal::in_words;
 use reference::script::{calls_of, Call};
@@ -48,6 +51,11 @@ fn main() -> ExitCode {
             Err(why) => wrong_words(&why),
         },
         ["dig"] => finish(write_dug()),
+        ["collecting", ref words @ ..] => match root_of(words) {
+            Ok(root) => finish(write_collecting(root)),
+            Err(why) => wrong_words(&why),
+        },
+        ["bus"] => finish(write_bus()),
         ["meshplan"] => finish(write_meshplan()),
         ["book"] => exit(write_book()),
         ["table"] => exit(write_text_table()),
@@ -65,8 +73,9 @@ fn usage() -> ExitCode {
     eprintln!(
         "usage: reference corpus SEED BOOK.. | reference expect | reference script CALL.. | \
          reference calls | reference show | reference digging link LINK | \
-         reference digging duct DUCT | reference dig | reference meshplan | reference book | \
-         reference table | reference bench | \
+         reference digging duct DUCT | reference dig | reference collecting ROOT | \
+         reference bus | reference meshplan | reference book | reference table | \
+         reference bench | \
          reference time BENCH MESHPLAN [EARLIER-BENCH EARLIER-MESHPLAN]"
     );
     ExitCode::from(2)
@@ -101,9 +110,7 @@ fn write_script(calls: &[Call]) -> io::Result<()> {
 }
 
 fn write_answers() -> io::Result<()> {
-    let answers = programs::calls(&read_input()?);
-    let answers = answers.ok_or_else(|| io::Error::other("ill-formed input"))?;
-    io::stdout().write_all(answers.as_bytes())
+    write_answer(programs::calls(&read_input()?))
 }
 
 fn write_shown() -> io::Result<()> {
@@ -117,7 +124,20 @@ fn write_digging(dig: Dig) -> io::Result<()> {
 }
 
 fn write_dug() -> io::Result<()> {
-    let lines = programs::dig::answer(&read_input()?);
+    write_answer(programs::dig::answer(&read_input()?))
+}
+
+fn write_collecting(root: u8) -> io::Result<()> {
+    let book = read_input()?;
+    io::stdout().write_all(&programs::bus::input_of(&book, root))
+}
+
+fn write_bus() -> io::Result<()> {
+    write_answer(programs::bus::answer(&read_input()?))
+}
+
+/// None is the answer to an ill-formed input.
+fn write_answer(lines: Option<String>) -> io::Result<()> {
     let lines = lines.ok_or_else(|| io::Error::other("ill-formed input"))?;
     io::stdout().write_all(lines.as_bytes())
 }

@@ -2,7 +2,6 @@
 
 use crate::arcs::Arcs;
 use crate::mesh::{Mesh, MOST_LINKS};
-use crate::node_set::all_below;
 use crate::refusal::{Answer, Reason, Refusal};
 use crate::tree::Tree;
 
@@ -37,10 +36,7 @@ fn check(mesh: &Mesh) -> Result<Arcs, Refusal> {
     mesh.check()?;
     let arcs = Arcs::both_ways(mesh.counted());
     let tree = Tree::from_0(arcs.leaving());
-    // 20: the place is the lowest node that node 0 does not reach.
-    if let Some(node) = tree.lowest_missing(all_below(mesh.nodes)) {
-        return Err(Refusal::new(Reason::NoPath, node));
-    }
+    tree.check_nodes(mesh.nodes)?;
     // 21: the place is the lowest link whose removal parts the mesh.
     if let Some((low, high)) = tree.lowest_parting() {
         let link = number_of(mesh, (low.into(), high.into()));

@@ -1,5 +1,6 @@
-//! What the programs `calls`, `show` and `dig` read and print.
+//! What the programs `calls`, `show`, `dig` and `bus` read and print.
 
+pub mod bus;
 pub mod dig;
 
 use crate::book::{decode, MOST_BOOK_BYTES};

@@ -7,7 +7,7 @@ pub mod program;
 
 use std::io::{self, Write};
 
-use crate::bench::{CUT, DECODE, DELIVER, ENCODE, PLAN, PLAN_IN_TWO_PASSES};
+use crate::bench::{COLLECT, CUT, DECODE, DELIVER, ENCODE, PLAN, PLAN_IN_TWO_PASSES};
 use crate::bench::{RUN, RUN_OF_FIRST, STATUS, STATUS_AT_REST};
 use crate::book::bytes_of;
 use crate::mesh::Mesh;
@@ -42,17 +42,19 @@ const ROWS: [Row; 10] = [
     ("status at rest", [STATUS_AT_REST; 2], Subject::filled),
 ];
 
-/// Those on books with ducts, which an earlier program may not read.
-const ROWS_WITH_DUCTS: [Row; 2] = [
+/// Those that an earlier program may not know: books with ducts, which it may
+/// not read, and the collection route.
+const LATER_ROWS: [Row; 3] = [
     ("decode, with ducts", [DECODE; 2], Subject::ducted),
     ("encode, with ducts", [ENCODE; 2], Subject::ducted),
+    ("collection route", [COLLECT; 2], Subject::filled),
 ];
 
 /// The rows for two programs, or for three with an earlier one.
 fn rows(programs: usize) -> Vec<Row> {
     let mut rows = ROWS.to_vec();
     if programs < 3 {
-        rows.extend(ROWS_WITH_DUCTS);
+        rows.extend(LATER_ROWS);
     }
     rows
 }

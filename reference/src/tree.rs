@@ -2,7 +2,8 @@
 //! links alone join two parts of the mesh.
 
 use crate::mesh::MOST_NODES;
-use crate::node_set::{lowest, only, take_lowest, NodeSet, PerNode};
+use crate::node_set::{all_below, lowest, only, take_lowest, NodeSet, PerNode};
+use crate::refusal::{refuse_if, Answer, Reason};
 
 const NODES: usize = MOST_NODES as usize;
 
@@ -43,10 +44,11 @@ impl<'a> Tree<'a> {
         }
     }
 
-    /// The lowest of `nodes` that is not in the tree.
-    pub fn lowest_missing(&self, nodes: NodeSet) -> Option<usize> {
-        let missing = nodes & !self.reached;
-        (missing != 0).then(|| lowest(missing))
+    /// 20: every node below N is in the tree. The place is the lowest that is
+    /// not.
+    pub fn check_nodes(&self, nodes: u8) -> Answer {
+        let missing = all_below(nodes) & !self.reached;
+        refuse_if(missing != 0, Reason::NoPath, lowest(missing))
     }
 
     /// The lowest pair (low, high) whose link alone joins two parts. Such a

@@ -32,6 +32,18 @@ fn bench_prints_the_last_result() {
 }
 
 #[test]
+fn bench_collects_from_each_root_in_turn() {
+    // P5 from nodes 0 to 3: 0 1 2 3 2 1 0, 1 0 2 3 2 0 1, 2 0 1 0 3 0 2 and
+    // 3 0 1 2 1 0 3.
+    for (repeats, sum) in [(1, 36), (2, 36), (3, 34), (4, 40), (5, 36), (70_003, 34)] {
+        let expected = format!("B accepted 7 3 {sum}\n");
+        assert_prints(b'B', repeats, &P5, &expected);
+    }
+    // A tree is collected too.
+    assert_prints(b'B', 4, &[1, 2, 1, 0, 0], "B accepted 3 1 4\n");
+}
+
+#[test]
 fn bench_prints_the_route_length_of_the_last_repeat() {
     // The route after the cut of link 2 has links 0 and 1, of 10 and 20 metres.
     // Link 0 has 1 metre in every other repeat.
@@ -55,8 +67,9 @@ fn bench_prints_refusals() {
     assert_prints(b'L', 3, &[1, 2, 1, 0, 0], "L refused 21 0\n");
     assert_prints(b'U', 3, &[1, 2, 1, 0, 0], "U refused 21 0\n");
     assert_prints(b'V', 3, &[1, 2, 1, 0, 0], "V refused 21 0\n");
+    assert_prints(b'B', 3, &[1, 2, 0, 0], "B refused 20 1\n");
     assert_prints(b'E', 3, &[1, 2, 0, 0], "E 4\n");
-    for job in *b"DEPTRSLUV" {
+    for job in *b"DEPTRSLUVB" {
         assert_prints(job, 3, &[1, 2, 0], "refused 1 3\n");
     }
 }
@@ -144,6 +157,24 @@ fn digging_writes_the_input_of_dig() {
     assert_eq!(output.status.code(), Some(2));
     assert!(output.stdout.is_empty());
     assert!(output.stderr.starts_with(b"duct 65536: DUCT is a number"));
+}
+
+#[test]
+fn collecting_writes_the_input_of_bus() {
+    let input = run(&["collecting", "2"], &P5).stdout;
+    assert_eq!(input, [b"\x0d\0", &P5[..], b"\x02"].concat());
+    let expected = "collect 2 accepted 7\nroute 2 0 1 0 3 0 2\n\
+        link 0 0 1 0 0 0\nlink 1 0 2 0 0 0\nlink 2 0 3 0 0 0\n";
+    assert_eq!(run(&["bus"], &input).stdout, expected.as_bytes());
+    let input = run(&["collecting", "4"], &P5).stdout;
+    assert_eq!(run(&["bus"], &input).stdout, b"collect 4 refused 6 0\n");
+    assert!(!run(&["bus"], b"\0").status.success());
+    for words in [&["collecting"][..], &["collecting", "256"]] {
+        let output = run(words, b"");
+        assert_eq!(output.status.code(), Some(2));
+        assert!(output.stdout.is_empty());
+        assert!(output.stderr.starts_with(b"root"));
+    }
 }
 
 #[test]

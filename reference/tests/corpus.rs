@@ -16,8 +16,8 @@ struct Part {
 }
 
 /// Books, mesh records, plannings, scripts, books to list, old sessions, duct
-/// queries.
-type Parts = [Part; 7];
+/// queries, collection routes.
+type Parts = [Part; 8];
 
 fn kind(case: &Case) -> usize {
     match case {
@@ -28,6 +28,7 @@ fn kind(case: &Case) -> usize {
         Case::Listing { .. } => 4,
         Case::Upgrade(_) => 5,
         Case::Ducts { .. } => 6,
+        Case::Collection { .. } => 7,
     }
 }
 
@@ -38,7 +39,7 @@ fn corpora() -> &'static [Parts] {
 }
 
 fn parts(cases: &[Case]) -> Parts {
-    [0, 1, 2, 3, 4, 5, 6].map(|number| {
+    [0, 1, 2, 3, 4, 5, 6, 7].map(|number| {
         let of_kind = cases.iter().filter(|case| kind(case) == number);
         let cases: Vec<Case> = of_kind.cloned().collect();
         let listing = listing(&cases).expect("both methods of planning agree");
@@ -133,13 +134,13 @@ fn each_kind_stands_together() {
 #[test]
 fn counts_and_sizes() {
     // Books, mesh records, plannings, scripts, books to list, old sessions, duct
-    // queries.
-    let fewest = [7_000, 2_500, 3_000, 4_500, 1_300, 550, 1_200];
+    // queries, collection routes.
+    let fewest = [7_000, 2_500, 3_000, 4_500, 1_300, 550, 1_200, 1_700];
     let most_bytes = [
-        450_000, 350_000, 500_000, 1_300_000, 250_000, 300_000, 300_000,
+        450_000, 350_000, 500_000, 1_300_000, 250_000, 300_000, 300_000, 220_000,
     ];
     let longest_listings = [
-        1_900_000, 600_000, 400_000, 10_200_000, 1_800_000, 1_550_000, 200_000,
+        1_900_000, 600_000, 400_000, 10_200_000, 1_800_000, 1_550_000, 200_000, 200_000,
     ];
     for parts in corpora() {
         for (number, part) in parts.iter().enumerate() {
@@ -148,9 +149,9 @@ fn counts_and_sizes() {
             assert!(part.listing.len() < longest_listings[number]);
         }
         let bytes = parts.iter().map(|part| write_cases(&part.cases).len());
-        assert!(bytes.sum::<usize>() < 2_900_000);
+        assert!(bytes.sum::<usize>() < 3_100_000);
         let listings = parts.iter().map(|part| part.listing.len());
-        assert!(listings.sum::<usize>() < 16_100_000);
+        assert!(listings.sum::<usize>() < 16_300_000);
     }
 }
 
@@ -164,7 +165,7 @@ fn rooms_and_books_are_within_the_limit() {
             Case::Script(script) => (0, script.book.len()),
             Case::Listing { book } => (0, book.len()),
             Case::Upgrade(_) => (0, 0),
-            Case::Ducts { room, .. } => {
+            Case::Ducts { room, .. } | Case::Collection { room, .. } => {
                 assert!(usize::from(*room) <= MOST_ENTRIES);
                 (0, 0)
             }
@@ -189,6 +190,7 @@ fn every_refusal_is_met() {
         assert_eq!(refusals(parts, "start"), mesh_and(&[]));
         assert_eq!(refusals(parts, "carry-over"), mesh_and(&[]));
         assert_eq!(refusals(parts, "sharing"), mesh_and(&[11, 12]));
+        assert_eq!(refusals(parts, "collect"), mesh_and(&[11, 20]));
         let plannings = &parts[2].listing;
         assert!(count_lines(plannings, "plan accepted") >= 1_100);
         assert!(count_lines(plannings, "plan refused 20 ") >= 500);
@@ -253,7 +255,7 @@ fn every_refusal_after_a_carry_over_is_met() {
         ("run", &[3, 23]),
         ("route", &[3, 14, 23]),
     ];
-    for [.., upgrades, _] in corpora() {
+    for [_, _, _, _, _, upgrades, ..] in corpora() {
         for (word, expected) in calls {
             let expected = expected.iter().copied().collect();
             let met = script_refusals(&upgrades.listing, word);
@@ -324,7 +326,7 @@ fn four_lists_have_thousands_of_calls() {
 
 #[test]
 fn duct_queries_are_answered_and_leave_the_rest() {
-    for [.., queries] in corpora() {
+    for [.., queries, _] in corpora() {
         let listing = &queries.listing;
         assert!(count_lines(listing, "sharing accepted") >= 400);
         assert!(count_lines(listing, "sharing refused 11 ") >= 150);
@@ -342,9 +344,35 @@ fn duct_queries_are_answered_and_leave_the_rest() {
     }
 }
 
+/// The words of a line after its first.
+fn values(line: &str) -> Vec<&str> {
+    line.split(' ').skip(1).collect()
+}
+
+#[test]
+fn collection_routes_have_their_tree_links_and_leave_the_rest() {
+    for [.., collections] in corpora() {
+        let listing = &collections.listing;
+        assert!(count_lines(listing, "collect accepted") >= 650);
+        assert!(count_lines(listing, "collect refused 6 0") >= 115);
+        assert!(count_lines(listing, "collect refused 11 ") >= 100);
+        assert!(count_lines(listing, "collect refused 20 ") >= 300);
+        assert!(listing.contains("\ncollect refused 11 127\n"));
+        let lines: Vec<&str> = listing.lines().collect();
+        for route in lines.chunks(5) {
+            let count: usize = values(route[2])[0].parse().unwrap();
+            let (tree, entries) = (values(route[3]), values(route[4]));
+            assert!(entries[count..].iter().all(|entry| *entry == "165"));
+            assert!(!entries[..count].contains(&"165"));
+            assert_eq!(tree.len(), count / 2);
+            assert_eq!(count > 0, route[1] == "collect accepted");
+        }
+    }
+}
+
 #[test]
 fn links_of_carried_over_sessions_have_no_duct() {
-    for [.., upgrades, _] in corpora() {
+    for [_, _, _, _, _, upgrades, ..] in corpora() {
         for case in &upgrades.cases {
             let Case::Upgrade(upgrade) = case else {
                 continue;

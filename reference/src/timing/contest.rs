@@ -5,6 +5,7 @@ use std::time::Duration;
 
 use super::program::Program;
 use crate::bench::input;
+use crate::book::decode;
 
 /// How often each run is made; the best time counts.
 const RUNS: usize = 7;
@@ -100,9 +101,9 @@ impl<'a> Runner<'a> {
     }
 }
 
-/// The number of repeats, at least 2, that takes about as long as a run should.
-/// It is even: sessions that are taken by turns can give different lines, and
-/// each program has to end with the same one, however often it repeats.
+/// The number of repeats that takes about as long as a run should, in whole
+/// rounds: what is taken by turns can give different lines, and each program
+/// has to end with the same one, however often it repeats.
 fn enough_repeats(program: &Program, job: u8, book: &[u8]) -> io::Result<u32> {
     let time_of_one = program.run(&input(job, 1, book))?.time;
     let mut repeats: u32 = 2;
@@ -110,7 +111,7 @@ fn enough_repeats(program: &Program, job: u8, book: &[u8]) -> io::Result<u32> {
         let run = program.run(&input(job, repeats, book))?;
         let time = run.time.saturating_sub(time_of_one);
         if time >= TRIAL {
-            return Ok(scaled(repeats, time));
+            return Ok(scaled(repeats, time, round_of(book)));
         }
         if run.clock > LONGEST_TRIAL || repeats > u32::MAX / 4 {
             return Err(io::Error::other(
@@ -121,26 +122,41 @@ fn enough_repeats(program: &Program, job: u8, book: &[u8]) -> io::Result<u32> {
     }
 }
 
-fn scaled(repeats: u32, time: Duration) -> u32 {
+/// After so many repeats two sessions, and all nodes as roots, have had their
+/// turns.
+fn round_of(book: &[u8]) -> u32 {
+    2 * u32::from(decode(book).0.nodes.max(1))
+}
+
+/// At least one round.
+fn scaled(repeats: u32, time: Duration, round: u32) -> u32 {
     let scaled = f64::from(repeats) * AIM.as_secs_f64() / time.as_secs_f64();
-    (scaled as u32).max(2) & !1
+    (scaled as u32 / round).max(1) * round
 }
 
 #[cfg(test)]
 mod tests {
-    use super::{scaled, Duration};
+    use super::{round_of, scaled, Duration};
 
     #[test]
     fn scales_repeats_to_the_aim() {
-        assert_eq!(scaled(100, Duration::from_millis(20)), 500);
-        assert_eq!(scaled(2, Duration::from_secs(9)), 2);
+        assert_eq!(scaled(100, Duration::from_millis(20), 4), 500);
+        assert_eq!(scaled(2, Duration::from_secs(9), 4), 4);
     }
 
     #[test]
-    fn repeats_are_even() {
-        assert_eq!(scaled(100, Duration::from_micros(19_990)), 500);
-        assert_eq!(scaled(101, Duration::from_millis(20)), 504);
-        let most = scaled(u32::MAX, Duration::from_millis(20));
-        assert_eq!(most, u32::MAX - 1);
+    fn repeats_are_whole_rounds() {
+        assert_eq!(scaled(100, Duration::from_micros(19_990), 4), 500);
+        assert_eq!(scaled(101, Duration::from_millis(20), 4), 504);
+        assert_eq!(scaled(101, Duration::from_millis(20), 128), 384);
+        let most = scaled(u32::MAX, Duration::from_millis(20), 6);
+        assert_eq!(most, u32::MAX - 3);
+    }
+
+    #[test]
+    fn a_round_is_even_and_has_each_node_as_often() {
+        assert_eq!(round_of(&[1, 3, 3, 0, 0, 2, 2, 1, 1]), 6);
+        assert_eq!(round_of(&[1, 64, 0, 0]), 128);
+        assert_eq!(round_of(&[]), 2);
     }
 }

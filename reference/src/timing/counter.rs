@@ -8,7 +8,8 @@ use super::program::Program;
 use crate::bench::input;
 
 /// A run with few repeats is taken off a run with many. Both numbers are even,
-/// so that inputs which are taken by turns have the same share.
+/// so that sessions which are taken by turns have the same share; the roots
+/// that are counted are the same in each program.
 const FEW: u32 = 4;
 const MANY: u32 = 104;
 
