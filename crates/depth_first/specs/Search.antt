@@ -1,8 +1,8 @@
 -- Depth-first search (02, request 5): visiting a node tries its links by rising number, and following a link to a new node visits that node. Definitions only.
 use Prim.Native.Nat.{ℕ, zero, suc, _+_, _-_, _*_}
-use mathlib.Core.Bool.{Bool, true, false, cond, not, _&&_, _||_}
+use mathlib.Core.Bool.{Bool, true, cond, not, _&&_, _||_}
 use mathlib.Core.List.{List}
-use lib.ListN.{set, replicate}
+use lib.ListN.{set}
 use lib.Dec.{eqb, ltb}
 use Rattle.scan.specs.Entry.{has}
 use Rattle.scan.specs.Total.{count}
@@ -56,7 +56,3 @@ module _ (G : Net) where
 
   unfoldable pub follow : ℕ → ℕ → List Bool → Tree
   follow k u seen = followBy (following seen k) k u seen
-
-  -- the search from a root: no node is visited yet
-  unfoldable pub searchFrom : ℕ → Tree
-  searchFrom root = visit root (replicate nodes false)
