@@ -17,7 +17,7 @@ use Rattle.scan.specs.Total.{bit, count, total-same, total-const, total-but, co
 use Rattle.graph.specs.Net.{Net, Fits}
 use Rattle.depth_first.specs.Tree as tree
 use Rattle.depth_first.specs.Tree.{Tree, leaf, marked, visited, labelled}
-use Rattle.depth_first.specs.Search.{touches, far, opens, unvisited, visiting, following, visitBy, followBy, visit, follow}
+use Rattle.depth_first.specs.Search.{touches, far, opens, unvisited, visiting, following, visitBy, followBy, visit, follow, Searches}
 
 -- ---- flags
 
@@ -200,3 +200,12 @@ module _ (G : Net) where
           (branches k (far G u k) below
           (same N (following G (visited B marked) (k + 1)) .same-follow (k + 1) u (visited B marked) (wide-visited B marked (wide-set s (far G u k) sized)) (omega arith) (omega arith)
           ∙ ap (λ (T : Tree). followBy G (following G (visited T marked) (k + 1)) (k + 1) u (visited T marked)) below)))
+
+-- together
+pub searches : (G : Net) → Fits G → Searches G
+searches G F = record {
+  visits = λ u s w. visit-is G F u s w;
+  ends = λ k u s w. follow-end G F u s w k;
+  passes = λ k u s w. follow-pass G F u s w k;
+  follows = λ k u s w. follow-take G F u s w k;
+}
