@@ -8,7 +8,7 @@ use lib.ListN.{length}
 use Rattle.scan.specs.Entry.{at, has}
 use Rattle.scan.specs.Total.{bit, count}
 use Rattle.graph.specs.Net.{Net, Strong}
-use Rattle.depth_first.specs.Tree.{Tree, branch, tour, labelled}
+use Rattle.depth_first.specs.Tree.{Tree, branch}
 use Rattle.depth_first.specs.Crossings.{crossings, Goes, times}
 
 -- when the walk along the tree below u meets the new node w, the path from u to it is u .. the node that w was met from

@@ -1,19 +1,19 @@
 -- Going along a chain of arcs: what is kept from arc to arc, the next arc, and the end. Serves the proof of `next_new`. Assumes nothing.
-use Prim.Native.Nat.{ℕ, _+_, _-_, _*_, _/_, _%_, _≤_, _<_}
-use mathlib.Core.Path.{_≡_, refl, sym, ap, _∙_, subst}
-use mathlib.Core.Logic.{_⊎_, inl, inr, ⊎-elim}
+use Prim.Native.Nat.{ℕ, _+_, _-_, _/_, _%_, _≤_, _<_}
+use mathlib.Core.Path.{_≡_, refl, sym, ap, _∙_}
+use mathlib.Core.Logic.{inl, inr}
 use mathlib.Core.Bool.{Bool, true, false, not}
 use mathlib.Core.List.{List}
 use native.Mathlib.Omega.{arith}
 use native.Mathlib.Decide.{ℕ-discrete, decLt}
 use Rattle.scan.specs.Entry.{at, has}
-use Rattle.scan.specs.Test.{clash, fails, failing}
+use Rattle.scan.specs.Test.{clash, failing}
 use Rattle.graph.specs.Net.{Net, Fits, end}
 use Rattle.graph.specs.Laws.Arcs.{Joins, end-below}
 use Rattle.depth_first.specs.Search.{touches, far, opens}
 use Rattle.depth_first.specs.Laws.Unfold.{opens-says}
 use Rattle.depth_first.specs.Laws.Ancestors.{joins-far}
-use Rattle.collection.specs.Arcs.{arcOf, netOfArcs, Leaves, ended, leaving, Heads, Chains}
+use Rattle.collection.specs.Arcs.{arcOf, netOfArcs, Leaves, ended, leaving, Heads}
 use Rattle.collection.specs.Walked.{CanTry, Passed, Next}
 
 -- ---- the numbers of arcs

@@ -15,11 +15,11 @@ use Rattle.scan.specs.Test.{clash, failing}
 use Rattle.scan.specs.Store.{sets-append}
 use Rattle.graph.specs.Net.{Net, Fits}
 use Rattle.depth_first.specs.Tree.{Tree, branch, marked, visited, labelled, tour}
-use Rattle.depth_first.specs.Search.{touches, far, opens, unvisited, visiting, following, visit, follow}
-use Rattle.depth_first.specs.Laws.Unfold.{visited-extends, wide-set, unvisited-new, visiting-new, visiting-le, opens-says, opens-new, visit-is, follow-end, follow-pass, follow-take}
+use Rattle.depth_first.specs.Search.{opens, unvisited, visiting, following, visit, follow}
+use Rattle.depth_first.specs.Laws.Unfold.{visited-extends, wide-set, unvisited-new, visiting-new, visiting-le, opens-says, visit-is, follow-end, follow-pass, follow-take}
 use Rattle.depth_first.specs.Laws.Follows.{visits-is, tour-length}
 use Rattle.collection.specs.Arcs.{netOfArcs, Leaves, Heads}
-use Rattle.collection.specs.Walked.{CanTry, CanVisit, CanFollow, Next, Walked, Visited, Followed}
+use Rattle.collection.specs.Walked.{CanVisit, CanFollow, Next, Walked, Visited, Followed}
 use Rattle.collection.specs.Laws.Chain.{head-below, leaves-far, leaves-opens, heads-after}
 
 -- ---- links that are passed over

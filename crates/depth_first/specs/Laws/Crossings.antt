@@ -1,10 +1,10 @@
 -- The walk goes along its crossings, which are of links that it labels; it crosses each of these once each way and no other link; and it has two entries for each.
 -- Assumes nothing.
-use Prim.Native.Nat.{ℕ, zero, suc, _+_, _*_, _≤_, _<_}
-use mathlib.Core.Path.{_≡_, refl, sym, ap, _∙_}
-use mathlib.Core.Logic.{_⊎_, inl, inr, _≢_, ⊎-elim}
+use Prim.Native.Nat.{ℕ, _+_, _*_, _≤_, _<_}
+use mathlib.Core.Path.{_≡_, refl, sym, _∙_}
+use mathlib.Core.Logic.{_⊎_, inl, inr, ⊎-elim}
 use mathlib.Core.Bool.{Bool, true, false, cond, not, _&&_, _||_, xor, Bool·not-not}
-use mathlib.Core.List.{List, [], _∷_, _++_, List·Memᴰ}
+use mathlib.Core.List.{List, [], _∷_, _++_}
 use native.Mathlib.Omega.{arith}
 use native.Mathlib.Decide.{ℕ-discrete}
 use lib.ListN.{length, set, length-set, length-append}
@@ -13,11 +13,11 @@ use lib.Dec.{eqb}
 use borrow.Author.Tests.{eqb-true, eq-eqb, ne-eqb}
 use Rattle.scan.specs.Entry.{at, has}
 use Rattle.scan.specs.Test.{clash, known}
-use Rattle.scan.specs.Flags.{set-only, set-keeps, Extends, extends-refl, extends-trans, count-set}
+use Rattle.scan.specs.Flags.{set-only, set-keeps, Extends, extends-trans, count-set}
 use Rattle.scan.specs.Total.{bit, count}
 use Rattle.graph.specs.Net.{Net, end}
 use Rattle.depth_first.specs.Tree as tree
-use Rattle.depth_first.specs.Tree.{Tree, leaf, marked, visited, labelled, tour}
+use Rattle.depth_first.specs.Tree.{Tree, marked, visited, labelled, tour}
 use Rattle.depth_first.specs.Search.{touches, far}
 use Rattle.depth_first.specs.Crossings.{Crossing, out, back, crossings, Crosses, Goes, stays, goes, times}
 use Rattle.depth_first.specs.Laws.Unfold.{visited-extends, labelled-extends}

@@ -1,9 +1,9 @@
 -- The search as a relation, with a clause for each thing that can happen at a link; how long the walk is, and where a node is met. Assumes nothing.
 use Prim.Native.Nat.{ℕ, zero, suc, _+_, _-_, _*_, _≤_, _<_}
-use mathlib.Core.Path.{_≡_, refl, ap, _∙_}
+use mathlib.Core.Path.{_≡_, refl, ap}
 use mathlib.Core.Logic.{_⊎_, inl, inr, ⊎-elim}
 use mathlib.Core.Bool.{Bool, true, false, cond}
-use mathlib.Core.List.{List, _∷_, List·Memᴰ, List·Memᴰ·head, List·Memᴰ·tail}
+use mathlib.Core.List.{List, _∷_, List·Memᴰ, List·Memᴰ·head}
 use native.Mathlib.Omega.{arith}
 use lib.ListN.{length, set, length-append}
 use lib.Dec.{ltb}
@@ -15,7 +15,7 @@ use Rattle.scan.specs.Flags.{set-only, Extends, extends-refl, extends-trans, ex
 use Rattle.graph.specs.Net.{Net, Fits}
 use Rattle.depth_first.specs.Tree as tree
 use Rattle.depth_first.specs.Tree.{Tree, leaf, branch, marked, visited, tour}
-use Rattle.depth_first.specs.Search.{touches, far, opens, unvisited, visiting, following, visitBy, followBy, visit, follow}
+use Rattle.depth_first.specs.Search.{touches, far, opens, unvisited, visiting, following, visitBy, followBy, visit}
 use Rattle.depth_first.specs.Folded.{Met, now, deeper, later}
 use Rattle.depth_first.specs.Laws.Unfold.{visited-extends, wide-set, wide-visited, unvisited-new, visiting-new, visiting-le, opens-says, opens-new, far-below}
 

@@ -1,12 +1,12 @@
 -- The search from a root of a connected net is as 02, request 5, says (`Folded`); where the walk has 2 N - 1 entries the net is connected. Assumes nothing.
 use Prim.Native.Nat.{ℕ, _+_, _-_, _*_, _≤_, _<_}
-use mathlib.Core.Path.{_≡_, refl, sym, ap, _∙_, subst}
+use mathlib.Core.Path.{_≡_, refl, sym, ap, _∙_}
 use mathlib.Core.Logic.{_⊎_, inl, inr, _≢_, ⊎-elim}
 use mathlib.Core.Bool.{Bool, true, false, not}
-use mathlib.Core.List.{List, [], _∷_, _++_, List·Memᴰ, List·Memᴰ·head, List·Memᴰ·tail, List·Memᴰ·not-nil, List·Memᴰ·cases-cons, Memᴰ·append-left, Memᴰ·append-right}
+use mathlib.Core.List.{List, _∷_, List·Memᴰ, List·Memᴰ·head, List·Memᴰ·tail, List·Memᴰ·not-nil, List·Memᴰ·cases-cons, Memᴰ·append-left, Memᴰ·append-right}
 use native.Mathlib.Omega.{arith}
 use native.Mathlib.Decide.{ℕ-discrete}
-use lib.ListN.{length, set, replicate, length-set, length-replicate}
+use lib.ListN.{length, set, replicate, length-replicate}
 use lib.Seq.{getD-set-same}
 use borrow.Author.Tests.{not-false}
 use Rattle.scan.specs.Entry.{at, has, replicate-at}
@@ -14,9 +14,9 @@ use Rattle.scan.specs.Test.{clash, known, three}
 use Rattle.scan.specs.Flags.{set-only, extends-refl}
 use Rattle.scan.specs.Total.{bit, count, count-zero}
 use Rattle.graph.specs.Walk as walk
-use Rattle.graph.specs.Walk.{Walk, carry}
+use Rattle.graph.specs.Walk.{carry}
 use Rattle.graph.specs.Net as net
-use Rattle.graph.specs.Net.{Net, Fits, Arc, bothWays, Strong, end}
+use Rattle.graph.specs.Net.{Net, Fits, Arc, bothWays, Strong}
 use Rattle.graph.specs.Laws.Arcs.{both-arc, widen}
 use Rattle.graph.specs.Laws.Arcs as arcs
 use Rattle.depth_first.specs.Tree as tree
@@ -26,7 +26,7 @@ use Rattle.depth_first.specs.Crossings.{Crossing, crossings, times}
 use Rattle.depth_first.specs.Folded.{Ancestor, Folded}
 use Rattle.depth_first.specs.Laws.Unfold.{visited-extends, wide-set, unvisited-all, unvisited-new}
 use Rattle.depth_first.specs.Laws.Follows.{Follows, visits-is, tour-length, New, placed, new-met, met-once}
-use Rattle.depth_first.specs.Laws.Ancestors.{Tried, Closed, closes, tried-visits, top, related}
+use Rattle.depth_first.specs.Laws.Ancestors.{Tried, closes, tried-visits, top, related}
 use Rattle.depth_first.specs.Laws.Crossings.{Leads, here, step, tour-leads, leads-goes, leads-last, Crossed, crossed}
 
 -- a node that the walk visits is one of its entries
