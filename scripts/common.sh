@@ -78,3 +78,12 @@ explain() {
         ;;
     esac
 }
+
+# Explains the refusal that a program's lines end with and ends the script with status 1; where they end with none it does nothing.
+end_refused() {
+    local lines=$1 mesh=$2 number place
+    read -r number place <<<"$(sed -n 's/.* refused \([0-9]* [0-9]*\)$/\1/p' "$lines")"
+    [ -n "$number" ] || return 0
+    explain "$number" "$place" "$mesh"
+    exit 1
+}
