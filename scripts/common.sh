@@ -87,3 +87,11 @@ end_refused() {
     explain "$number" "$place" "$mesh"
     exit 1
 }
+
+# Prints a drawing in DOT of a mesh: KIND is plan or collection, CUT a link or empty, and the lines of the programs are in files.
+drawing() {
+    local kind=$1 file=$2 cut=$3
+    shift 3
+    { grep '^# site ' "$file" || true; } | cat - "$@" |
+        awk -v name="$(basename "${file%.*}")" -v cut="$cut" -f "$root/scripts/draw.awk" -f "$root/scripts/draw.$kind.awk"
+}
