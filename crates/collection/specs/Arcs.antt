@@ -3,9 +3,8 @@ use Prim.Native.Nat.{ℕ, _+_, _*_, _/_, _<_, _≤_}
 use mathlib.Core.Path.{_≡_}
 use mathlib.Core.Bool.{Bool, false}
 use mathlib.Core.List.{List}
-use lib.ListN.{length}
 use Rattle.scan.specs.Entry.{at}
-use Rattle.graph.specs.Net.{Net, end, code}
+use Rattle.graph.specs.Net.{Net, withNodes, end, code}
 use Rattle.mesh.specs.declared.Mesh.{Mesh}
 use Rattle.nets.specs.Nets.{netOf}
 use Rattle.depth_first.specs.Search.{touches}
@@ -35,7 +34,11 @@ module _ (G : Net) where
     pub heads : (u : ℕ) → u < G .nodes → Heads u 0 (at next (512 + u))
     pub later : (i : ℕ) (d : Bool) → i < G .links → Heads (end G i d) (i + 1) (at next (arcOf i d))
 
+-- the links of m on as many nodes as the tables have entries for
+abbrev pub tableNet : Mesh → Net
+tableNet m = withNodes 64 (netOf m)
+
 -- the tables hold the arcs of m
 pub record Chained (m : Mesh) (next to : List ℕ) : Type 0 where
-  pub net-is : netOfArcs (m .nodes) (m .count) to ≡ netOf m
-  pub chains : Chains (netOf m) next
+  pub net-is : netOfArcs 64 (m .count) to ≡ tableNet m
+  pub chains : Chains (tableNet m) next

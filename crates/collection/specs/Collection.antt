@@ -12,12 +12,12 @@ use Rattle.mesh.specs.declared.Answer.the-variants.{Accepted, Refused}
 use Rattle.mesh.specs.Mesh.{must, andThen, outputAs, meshAnswer}
 use Rattle.nets.specs.Nets.{netOf}
 use Rattle.depth_first.specs.Tree.{Tree, tour, labelled}
-use Rattle.depth_first.specs.Search.{searchFrom}
+use Rattle.depth_first.specs.Search.{visit}
 use Rattle.collection.specs.declared.Collected.{Collected}
 
--- the tree of the depth-first search from the root
+-- the tree of the depth-first search from the root, with none of 64 nodes visited
 abbrev pub treeOf : Mesh → ℕ → Tree
-treeOf m root = searchFrom (netOf m) root
+treeOf m root = visit (netOf m) root (replicate 64 false)
 
 -- the route: the nodes in the order the walk meets them, the root first and last
 abbrev pub routeOf : Mesh → ℕ → List ℕ
@@ -35,13 +35,17 @@ labelsOf m root = labelled (treeOf m root) noLabels
 abbrev pub needed : Mesh → ℕ
 needed m = 2 * m .nodes - 1
 
+-- the lowest node that node 0 does not reach
+abbrev pub apartAt : Mesh → ℕ
+apartAt m = lowest (unreached (netOf m)) (m .nodes)
+
 -- asking for the route with an output of `room` entries: the mesh checks; 6 for a root that is no node; 20 with the lowest node that node 0 does not reach; 11 with the
 -- entries needed
 unfoldable pub collectAnswer : Mesh → ℕ → ℕ → Answer
 collectAnswer m root room =
     andThen (meshAnswer m)
     (must (ltb root (m .nodes)) 6 0
-    (must (not (any (unreached (netOf m)) (m .nodes))) 20 (lowest (unreached (netOf m)) (m .nodes))
+    (must (not (any (unreached (netOf m)) (m .nodes))) 20 (apartAt m)
     (must (leb (needed m) room) 11 (needed m)
     Accepted)))
 

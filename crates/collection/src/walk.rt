@@ -3,8 +3,8 @@ use crate::arcs::HEADS;
 use crate::arcs::chain_all;
 use mesh::Mesh;
 ghost use mathlib.Core.Path.{_≡_};
-ghost use lib.ListN.{length, replicate};
-ghost use Prim.Native.Nat.{_*_, _+_, _≤_, _<_};
+ghost use lib.ListN.{length};
+ghost use Prim.Native.Nat.{_<_};
 ghost use Rattle.mesh.specs.declared.Answer.the-variants.{Accepted};
 ghost use Rattle.mesh.specs.Mesh.{meshAnswer};
 ghost use Rattle.collection.specs.Arcs.{netOfArcs};
@@ -24,9 +24,9 @@ fn arc_number(a: u16) -> usize
 }
 
 // The arc from `arc` on, in the chain of its node, that leads to a new node first; the chain's end where none does.
-fn next_new(next: &[u16; 576], to: &[u8; 512], links: usize, arc: usize, seen: &[bool]) -> usize
-    requires { ⌜ CanTry (netOfArcs (length (now seen)) links (now to)) (now next) ⌝ }
-    ensures { λ r. ⌜ Next (netOfArcs (length (now (seen .entry))) links (now (to .entry))) (now (seen .entry)) arc r ⌝ }
+fn next_new(next: &[u16; 576], to: &[u8; 512], links: usize, arc: usize, seen: &[bool; 64]) -> usize
+    requires { ⌜ CanTry (netOfArcs 64 links (now to)) (now next) ⌝ }
+    ensures { λ r. ⌜ Next (netOfArcs 64 links (now (to .entry))) (now (seen .entry)) arc r ⌝ }
 {
     let mut a = arc;
     while a / 2 < links {
@@ -45,18 +45,18 @@ fn visit(
     links: usize,
     u: u8,
     place: usize,
-    seen: &mut [bool],
+    seen: &mut [bool; 64],
     tree: &mut [bool; 256],
-    out: &mut [u8],
+    route: &mut [u8; 127],
 ) -> usize
-    requires { ⌜ CanVisit (netOfArcs (length (now seen)) links (now to)) (now next) u place (now seen) (now out) ⌝ }
-    ensures { λ r. ⌜ Visited (netOfArcs (length (now (seen .entry))) links (now (to .entry))) u place
-        (now (seen .entry)) (now (tree .entry)) (now (out .entry)) r (now (seen .exit)) (now (tree .exit)) (now (out .exit)) ⌝ }
+    requires { ⌜ CanVisit (netOfArcs 64 links (now to)) (now next) u place (now seen) (now route) ⌝ }
+    ensures { λ r. ⌜ Visited (netOfArcs 64 links (now (to .entry))) u place
+        (now (seen .entry)) (now (tree .entry)) (now (route .entry)) r (now (seen .exit)) (now (tree .exit)) (now (route .exit)) ⌝ }
 {
     seen[u as usize] = true;
-    out[place] = u;
+    route[place] = u;
     let arc = arc_number(next[HEADS + u as usize]);
-    follow(next, to, links, u, arc, place + 1, seen, tree, out)
+    follow(next, to, links, u, arc, place + 1, seen, tree, route)
 }
 
 // Tries the links of u from that of `arc` on: the first that leads to a new node is labelled, that node is visited, and u is written again.
@@ -67,13 +67,13 @@ fn follow(
     u: u8,
     arc: usize,
     place: usize,
-    seen: &mut [bool],
+    seen: &mut [bool; 64],
     tree: &mut [bool; 256],
-    out: &mut [u8],
+    route: &mut [u8; 127],
 ) -> usize
-    requires { ⌜ CanFollow (netOfArcs (length (now seen)) links (now to)) (now next) u arc place (now seen) (now out) ⌝ }
-    ensures { λ r. ⌜ Followed (netOfArcs (length (now (seen .entry))) links (now (to .entry))) u arc place
-        (now (seen .entry)) (now (tree .entry)) (now (out .entry)) r (now (seen .exit)) (now (tree .exit)) (now (out .exit)) ⌝ }
+    requires { ⌜ CanFollow (netOfArcs 64 links (now to)) (now next) u arc place (now seen) (now route) ⌝ }
+    ensures { λ r. ⌜ Followed (netOfArcs 64 links (now (to .entry))) u arc place
+        (now (seen .entry)) (now (tree .entry)) (now (route .entry)) r (now (seen .exit)) (now (tree .exit)) (now (route .exit)) ⌝ }
 {
     let a = next_new(next, to, links, arc, seen);
     let i = a / 2;
@@ -82,30 +82,29 @@ fn follow(
     }
     tree[i] = true;
     let v = to[a];
-    let back = visit(next, to, links, v, place, seen, tree, out);
-    out[back] = u;
+    let back = visit(next, to, links, v, place, seen, tree, route);
+    route[back] = u;
     let later = arc_number(next[a]);
-    follow(next, to, links, u, later, back + 1, seen, tree, out)
+    follow(next, to, links, u, later, back + 1, seen, tree, route)
 }
 
-// The walk from the root of a mesh: its nodes go to the front of `out`, and the links of its tree are labelled. Gives how many entries were written.
-pub(crate) fn walk(m: Mesh, root: u8, tree: &mut [bool; 256], out: &mut [u8]) -> usize
-    requires { ⌜ (meshAnswer m ≡ Accepted) × (root < m .nodes) × (2 * m .nodes ≤ length (now out) + 1) ⌝ }
-    ensures { λ r. ⌜ WalkedFrom m root (now (tree .entry)) (now (out .entry)) r (now (tree .exit)) (now (out .exit)) ⌝ }
+// The walk from the root of a mesh: its nodes go to the front of `route`, and the links of its tree are labelled. Gives how many entries were written.
+pub(crate) fn walk(m: Mesh, root: u8, tree: &mut [bool; 256], route: &mut [u8; 127]) -> usize
+    requires { ⌜ (meshAnswer m ≡ Accepted) × (root < m .nodes) × (length (now route) ≡ 127) ⌝ }
+    ensures { λ r. ⌜ WalkedFrom m root (now (tree .entry)) (now (route .entry)) r (now (tree .exit)) (now (route .exit)) ⌝ }
 {
     let mut next = [512u16; 576];
     let mut to = [0u8; 512];
     chain_all(m, &mut next, &mut to);
     let mut seen = [false; 64];
-    let nodes = m.nodes as usize;
     visit(
         &next,
         &to,
         m.count as usize,
         root,
         0,
-        &mut seen[..nodes],
+        &mut seen,
         tree,
-        out,
+        route,
     )
 }

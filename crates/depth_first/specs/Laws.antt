@@ -3,3 +3,4 @@ pub mod Follows
 pub mod Ancestors
 pub mod Crossings
 pub mod Main
+pub mod Nodes

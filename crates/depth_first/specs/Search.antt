@@ -1,8 +1,9 @@
 -- Depth-first search (02, request 5): visiting a node tries its links by rising number, and following a link to a new node visits that node. Definitions only.
-use Prim.Native.Nat.{ℕ, zero, suc, _+_, _-_, _*_}
+use Prim.Native.Nat.{ℕ, zero, suc, _+_, _-_, _*_, _<_, _≤_}
+use mathlib.Core.Path.{_≡_}
 use mathlib.Core.Bool.{Bool, true, false, cond, not, _&&_, _||_}
 use mathlib.Core.List.{List}
-use lib.ListN.{set, replicate}
+use lib.ListN.{length, set}
 use lib.Dec.{eqb, ltb}
 use Rattle.scan.specs.Entry.{has}
 use Rattle.scan.specs.Total.{count}
@@ -50,13 +51,20 @@ module _ (G : Net) where
         let next : Tree = followBy n (k + 1) u seen in
         cond (ltb k links) (cond (opens seen u k) (branch k v below rest) next) leaf
 
-  -- with the falling number as the bound, which is enough (specs/Laws/Unfold.antt has the equations without it)
+  -- with the falling number as the bound, which is enough: `Searches` has the equations without it
   unfoldable pub visit : ℕ → List Bool → Tree
   visit u seen = visitBy (visiting seen) u seen
 
   unfoldable pub follow : ℕ → ℕ → List Bool → Tree
   follow k u seen = followBy (following seen k) k u seen
 
-  -- the search from a root: no node is visited yet
-  unfoldable pub searchFrom : ℕ → Tree
-  searchFrom root = visit root (replicate nodes false)
+  -- what the search is, without the bound: a visit of a new node tries its links from 0 on, and of these one past the last ends the search, one that does not lead to a
+  -- new node is passed over, and one that does is followed, that node is visited, and then the later links are tried. There is a flag for each node
+  pub record Searches : Type 0 where
+    pub visits : (u : ℕ) (seen : List Bool) → nodes ≤ length seen → u < nodes → has seen u ≡ false → visit u seen ≡ follow 0 u (set seen u true)
+    pub ends : (k u : ℕ) (seen : List Bool) → nodes ≤ length seen → links ≤ k → follow k u seen ≡ leaf
+    pub passes : (k u : ℕ) (seen : List Bool) → nodes ≤ length seen → k < links → opens seen u k ≡ false → follow k u seen ≡ follow (k + 1) u seen
+    pub follows : (k u : ℕ) (seen : List Bool) → nodes ≤ length seen → k < links → opens seen u k ≡ true
+        → let v = far u k in
+        let below = visit v seen in
+        follow k u seen ≡ branch k v below (follow (k + 1) u (visited below (set seen v true)))

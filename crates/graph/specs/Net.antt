@@ -21,6 +21,10 @@ pub record Fits (G : Net) : Type 0 where
   pub low-below : (i : ℕ) → i < G .links → G .low i < G .nodes
   pub high-below : (i : ℕ) → i < G .links → G .high i < G .nodes
 
+-- the same links, on n nodes
+abbrev pub withNodes : ℕ → Net → Net
+withNodes n G = record { nodes = n; links = G .links; low = G .low; high = G .high }
+
 -- ---- ways and walks
 
 -- the two ways along a link: false from its low to its high end, true from its high to its low end; way d leads from `end G i d` to `end G i (not d)`

@@ -1,3 +1,4 @@
 pub mod Computed
 pub mod DuctsComputed
+pub mod CollectionComputed
 pub mod Same

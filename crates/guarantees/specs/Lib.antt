@@ -1,4 +1,5 @@
 pub mod Main
 pub mod Bench
 pub mod DuctBench
+pub mod CollectionBench
 pub mod Laws

@@ -23,7 +23,7 @@ use Rattle.codec.specs.Laws.Read.{decoded-accepted, decoded-in-range, output-de
 use Rattle.codec.specs.Laws.Encoding.{encoded-done, encoded-short, encoded-refused}
 use Rattle.codec.specs.Laws.Prefix.{decoded-take}
 use Rattle.codec.specs.Laws.Shown.{record-shown}
-use Rattle.graph.specs.Net.{Parted, bothWays, without, First}
+use Rattle.graph.specs.Net.{Net, Fits, Parted, bothWays, without, First}
 use Rattle.graph.specs.Laws.First.{first-unique}
 use Rattle.nets.specs.Nets.{netOf, NoPath}
 use Rattle.planner.specs.Plan.{planned}
@@ -79,8 +79,18 @@ use Rattle.carried.specs.Laws.Demand.{demand-carried}
 use Rattle.carried.specs.Laws.Replayed.{replayed-same}
 use Rattle.carried.specs.Laws.Computed as carriedComputed
 use Rattle.guarantees.specs.Bench.{Row, table, Holds}
+use Rattle.depth_first.specs.Search.{Searches}
+use Rattle.depth_first.specs.Laws.Unfold.{searches}
+use Rattle.collection.specs.Collection.{noLabels, routeOf, labelsOf, needed, collected}
+use Rattle.collection.specs.Collection as collection
+use Rattle.collection.specs.Meaning.{Connected, Collects}
+use Rattle.collection.specs.Meaning as collectionQuery
+use Rattle.collection.specs.Laws.Folded.{collects}
+use Rattle.collection.specs.Laws.Query as asking
 use Rattle.guarantees.specs.DuctBench as ductRows
 use Rattle.guarantees.specs.Laws.DuctsComputed as ductsComputed
+use Rattle.guarantees.specs.CollectionBench as collectionRows
+use Rattle.guarantees.specs.Laws.CollectionComputed as collectionComputed
 use Rattle.guarantees.specs.Laws.Computed.{row-holds}
 
 -- ---- the mesh checks (contract: crates/mesh/src/lib.rt, `check`)
@@ -354,6 +364,44 @@ arcs-by-ends = backup-by-ends
 -- a book with ducts read, the query on its mesh, and damaged records with the new field
 pub ducts-bench : ductRows.Holds
 ducts-bench = ductsComputed.computed
+
+-- ---- 02, request 5: the collection route (contract: crates/collection/src/lib.rt, `collect`)
+
+-- the search is the one that 02 describes: the equations of visiting a node and of following its links, without the number that bounds their definition
+pub collection-searches : (G : Net) → Fits G → Searches G
+collection-searches = searches
+
+-- from every root of every mesh that passes the checks and is connected: 2 × N - 1 entries, the root first and last; each entry and the next are the ends of a tree
+-- link; the walk crosses each tree link once each way and no other link; the tree links are N - 1 and join all nodes; every remaining link joins a node to one of its
+-- ancestors, the nodes on the path from the root when it is met. Crossings are of links, so that two links between the same nodes would not be taken for one
+pub collection-folded : (m : Mesh) → meshAnswer m ≡ Accepted → (root : ℕ) → root < m .nodes → InRange m → Connected m → Collects m root
+collection-folded = collects
+
+-- the call accepts exactly a mesh that passes the checks and is connected, a root that is a node, and an output with an entry for each of the route
+pub collection-accepts : (m : Mesh) (root room : ℕ)
+    → (collected m root room .answer ≡ Accepted) ↔ ((meshAnswer m ≡ Accepted) × (root < m .nodes) × Connected m × (needed m ≤ room))
+collection-accepts = asking.accepts-exactly
+
+-- then the answer has the labels and the route's number of entries, the route stands at the front of the output, and the entries past it are as they were
+pub collection-written : (m : Mesh) (root : ℕ) (out : List ℕ) → InRange m → collected m root (length out) .answer ≡ Accepted
+    → (collected m root (length out) .tree ≡ labelsOf m root)
+    × (collected m root (length out) .count ≡ needed m)
+    × (take (needed m) (collection.outputAfter m root out) ≡ routeOf m root)
+    × (drop (needed m) (collection.outputAfter m root out) ≡ drop (needed m) out)
+collection-written = asking.accepted-writes
+
+-- it refuses exactly on 02's conditions, each at its own place; no link is labelled and no entry counted then, and the output stays as it was
+pub collection-refuses : (m : Mesh) (root room number place : ℕ)
+    → (collected m root room .answer ≡ Refused number place) ↔ collectionQuery.Refusal m root room number place
+collection-refuses = asking.refuses-exactly
+
+pub collection-refused : (m : Mesh) (root : ℕ) (out : List ℕ) (number place : ℕ) → collected m root (length out) .answer ≡ Refused number place
+    → (collected m root (length out) .tree ≡ noLabels) × (collected m root (length out) .count ≡ 0) × (collection.outputAfter m root out ≡ out)
+collection-refused = asking.refusal-told
+
+-- document 000's route, the same mesh from another root, and each refusal
+pub collection-bench : collectionRows.Holds
+collection-bench = collectionComputed.computed
 
 -- ---- 01's bench examples marked P
 

@@ -1,11 +1,12 @@
 -- Runs of stores in a list: `sets l i vs` has the elements of vs from index i on. Assumes nothing.
-use Prim.Native.Nat.{ℕ, zero, suc, _+_, _-_, _≤_}
+use Prim.Native.Nat.{ℕ, zero, suc, _+_, _-_, _≤_, _<_}
 use mathlib.Core.Path.{_≡_, sym, _∙_, ap}
 use mathlib.Core.List.{List, [], _∷_, _++_, append-assoc, append-nil}
 use native.Mathlib.Nat.{add-zero, zero-add, add-suc, suc-add}
+use native.Mathlib.Numerals.{add-one}
 use native.Mathlib.Omega.{arith}
-use lib.ListN.{length, take, drop, set, replicate, length-replicate, length-drop, drop-of-length-le}
-use lib.Seq.{sets, sets-eq, drop-drop}
+use lib.ListN.{length, getD, take, drop, set, replicate, length-replicate, length-drop, drop-of-length-le}
+use lib.Seq.{sets, sets-eq, drop-drop, take-suc, length-take-le}
 use Rattle.scan.specs.Part.{part-rest}
 
 -- one run after the other
@@ -16,6 +17,12 @@ sets-append l i (x ∷ xs) ys = sets-append (set l i x) (suc i) xs ys ∙ rw (ad
 -- a run at the front
 pub sets-front : {A : Type 0} (vs l : List A) → length vs ≤ length l → sets l 0 vs ≡ vs ++ drop (length vs) l
 sets-front vs l h = sets-eq vs l 0 (rw zero-add h) ∙ ap (λ (k : ℕ). vs ++ drop k l) (zero-add (length vs))
+
+-- the first entries of a list, and one more
+pub sets-take : {A : Type 0} (l vs : List A) (i : ℕ) (d : A) → i < length vs → set (sets l 0 (take i vs)) i (getD vs i d) ≡ sets l 0 (take (i + 1) vs)
+sets-take l vs i d h =
+    let n : 0 + length (take i vs) ≡ i = omega (arith, length-take-le i vs (omega arith)) in
+    sym (rw (add-one i, take-suc vs i d h) (sets-append l 0 (take i vs) (getD vs i d ∷ []) ∙ ap (λ (k : ℕ). set (sets l 0 (take i vs)) k (getD vs i d)) n))
 
 drop-replicate : {A : Type 0} (k n : ℕ) (a : A) → drop k (replicate n a) ≡ replicate (n - k) a
 drop-replicate zero n a = let e : n - 0 ≡ n = omega arith in rw e

@@ -1,20 +1,24 @@
 -- `collection::collect` meets its contract: each of its five ways out is a law of `collected` and `outputAfter`.
-use Prim.Native.Nat.{_≤_, _<_}
-use mathlib.Core.Path.{_≡_, refl, sym, _∙_}
+use Prim.Native.Nat.{ℕ, _<_}
+use mathlib.Core.Path.{_≡_, refl, sym, _∙_, ap}
 use native.Mathlib.Omega.{arith}
 use denote.Ref.{now}
+use lib.ListN.{length, replicate, length-replicate}
+use lib.Seq.{length-sets}
 use borrow.Author.Needs.{needs}
-use Rattle.scan.specs.Lowest.{lowest}
 use Rattle.mesh.specs.declared.Mesh.{Mesh}
 use Rattle.mesh.specs.declared.Answer.the-variants.{Accepted}
 use Rattle.mesh.specs.Mesh.{meshAnswer}
 use Rattle.mesh.specs.Laws.Checked.{passes}
-use Rattle.graph.specs.Plan.{unreached}
-use Rattle.nets.specs.Nets.{netOf}
-use Rattle.nets.specs.Laws.Fits.{fits}
-use Rattle.collection.specs.Laws.Collecting.{gives-refused, answer-mesh, answer-root, answer-unreached, answer-short, gives-all}
+use Rattle.collection.specs.Collection.{routeOf}
+use Rattle.collection.specs.Laws.Folded.{most}
+use Rattle.collection.specs.Laws.Collecting.{gives-refused, answer-mesh, answer-root, answer-apart, answer-short, gives-all}
 use Rattle.collection.proofs.collect.Statement.{statement}
 use Rattle.collection.proofs.collect.Tie as tie
+
+-- the walk's own route before the walk
+empty : length (replicate {A = ℕ} 127 0) ≡ 127
+empty = length-replicate {A = ℕ} 127 0
 
 check-requires : tie.Need-check-requires
 check-requires c κs = search needs
@@ -52,38 +56,19 @@ returns-2 c =
     let a = t .before .before .before .before .args in
     gives-refused (a .m) (a .root) (now (a .out)) (answer-root (a .m) (a .root) (now (a .out)) (accepted t) (c .before .if1 .taken)) refl (c .refused2 .ensures)
 
-all-ways-requires : tie.Need-all-ways-requires
-all-ways-requires c κs = search needs
+walk-requires : tie.Need-walk-requires
+walk-requires c κs = (accepted (c .before .before .before .before), c .before .before .if1 .left, empty)
 
-lowest-unreached-requires : tie.Need-lowest-unreached-requires
-lowest-unreached-requires c κs = search needs
-
--- past the search from node 0
-module _ (c : tie.After-lowest-unreached) where
+-- past the walk
+module _ (c : tie.After-walk) where
   abbrev told : tie.After-enum-told
   told = c .before .before .before .before .before
 
   inside : told .before .before .before .before .args .root < mesh told .nodes
   inside = c .before .before .before .if1 .left
 
-  found : c .lowest-unreached .result ≡ lowest (unreached (netOf (mesh told))) (mesh told .nodes)
-  found =
-      let m = mesh told in
-      let ok = accepted told in
-      c .lowest-unreached .ensures (netOf m) (fits m ok) refl (passes m ok .nodes-most) (c .before .before .all-ways .ensures ok)
-
-cast-t15 : tie.Need-cast-t15
-cast-t15 c = search needs
-
-refused-requires-3 : tie.Need-refused-requires-3
-refused-requires-3 c κs = search needs
-
-returns-3 : tie.Need-returns-3
-returns-3 c =
-    let f = c .before .before .before in
-    let t = told f in
-    let a = t .before .before .before .before .args in
-    gives-refused (a .m) (a .root) (now (a .out)) (answer-unreached (a .m) (a .root) (now (a .out)) (accepted t) (inside f) (found f) (c .before .if2 .taken)) refl (c .refused3 .ensures)
+  ok : meshAnswer (mesh told) ≡ Accepted
+  ok = accepted told
 
 cast-needed : tie.Need-cast-needed
 cast-needed c = search needs
@@ -94,34 +79,53 @@ mul-needed c = search needs
 sub-needed : tie.Need-sub-needed
 sub-needed c = search needs
 
+apart-requires : tie.Need-apart-requires
+apart-requires c κs = ok (c .before .before)
+
+refused-requires-3 : tie.Need-refused-requires-3
+refused-requires-3 c κs = search needs
+
+returns-3 : tie.Need-returns-3
+returns-3 c =
+    let w = c .before .before .before .before in
+    let t = told w in
+    let a = t .before .before .before .before .args in
+    let few = rw (w .walk .ensures .entries) at (c .before .before .if2 .taken) in
+    gives-refused (a .m) (a .root) (now (a .out)) (answer-apart (a .m) (a .root) (now (a .out)) (ok w) (inside w) few (t .before .before .check .ensures .1)) (c .before .apart .ensures)
+    (c .refused3 .ensures)
+
 refused-requires-4 : tie.Need-refused-requires-4
 refused-requires-4 c κs = search needs
 
 returns-4 : tie.Need-returns-4
 returns-4 c =
-    let f = c .before .before .before .before .before in
-    let t = told f in
-    let a = t .before .before .before .before .args in
-    gives-refused (a .m) (a .root) (now (a .out))
-    (answer-short (a .m) (a .root) (now (a .out)) (accepted t) (inside f) (found f) (c .before .before .before .if2 .left) (c .before .if3 .taken)) refl (c .refused4 .ensures)
+    let w = c .before .before .before .before in
+    let a = told w .before .before .before .before .args in
+    let all = rw (w .walk .ensures .entries) at (c .before .before .if2 .left) in
+    gives-refused (a .m) (a .root) (now (a .out)) (answer-short (a .m) (a .root) (now (a .out)) (ok w) (inside w) all (c .before .if3 .taken)) refl (c .refused4 .ensures)
 
-walk-requires : tie.Need-walk-requires
-walk-requires c κs =
-    let f = c .before .before .before .before .before .before in
-    let t = told f in
-    (accepted t, inside f, omega (arith, c .before .before .if3 .left))
+copy-requires : tie.Need-copy-requires
+copy-requires c κs =
+    let w = c .before .before .before .before .before in
+    let a = told w .before .before .before .before .args in
+    let n = most (a .m) (ok w) (a .root) (inside w) in
+    let few = passes (a .m) (ok w) .nodes-most in
+    let r = w .walk .ensures in (
+      omega (arith, r .entries),
+      ap length (r .written) ∙ length-sets (replicate 127 0) 0 (routeOf (a .m) (a .root)) ∙ empty,
+      omega (arith, r .entries, c .before .before .if3 .left),
+    )
 
 same-length : tie.Need-same-length
 same-length c = search needs
 
 returns-5 : tie.Need-returns-5
 returns-5 c =
-    let w = c .before .before in
-    let f = w .before .before .before .before .before .before .before in
-    let t = told f in
-    let k = t .before .before in
-    let a = t .before .before .before .before .args in
-    gives-all (a .m) (a .root) (now (a .out)) (accepted t) (inside f) (found f) (w .before .before .before .before .before .if2 .left) (k .check .ensures .1) (w .before .before .before .if3 .left) (w .walk .ensures)
+    let k = c .before .before in
+    let w = k .before .before .before .before .before .before in
+    let a = told w .before .before .before .before .args in
+    let all = rw (w .walk .ensures .entries) at (k .before .before .before .before .if2 .left) in
+    gives-all (a .m) (a .root) (now (a .out)) (ok w) (inside w) all (k .before .before .before .if3 .left) (empty) (w .walk .ensures) (k .copy .ensures)
 
 pub collect-spec : {M : Type 1} → statement M
 collect-spec =
@@ -134,16 +138,15 @@ collect-spec =
     returns
     refused-requires-2
     returns-2
-    all-ways-requires
-    lowest-unreached-requires
-    cast-t15
-    refused-requires-3
-    returns-3
+    walk-requires
     cast-needed
     mul-needed
     sub-needed
+    apart-requires
+    refused-requires-3
+    returns-3
     refused-requires-4
     returns-4
-    walk-requires
+    copy-requires
     same-length
     returns-5)

@@ -13,9 +13,8 @@ use Rattle.scan.specs.Entry.{at, Changed, set-at, replicate-at}
 use Rattle.graph.specs.Net.{Net, end, code}
 use Rattle.mesh.specs.declared.Mesh.{Mesh}
 use Rattle.mesh.specs.WellFormed.{link, WellFormed}
-use Rattle.nets.specs.Nets.{netOf}
 use Rattle.depth_first.specs.Search.{touches}
-use Rattle.collection.specs.Arcs.{arcOf, ended, leaving, Heads, Chained}
+use Rattle.collection.specs.Arcs.{arcOf, ended, leaving, Heads, tableNet, Chained}
 
 -- an arc of link i is 2 × i or 2 × i + 1
 code-most : (d : Bool) → code d ≤ 1
@@ -97,13 +96,13 @@ pub record Chaining (m : Mesh) (i : ℕ) (next to : List ℕ) : Type 0 where
   pub inside : i ≤ m .count
   pub sized : length next ≡ 576
   pub sized-to : length to ≡ 512
-  pub heads : (u : ℕ) → u < m .nodes → Heads (netOf m) u i (at next (512 + u))
-  pub later : (j : ℕ) (d : Bool) → i ≤ j → j < m .count → Heads (netOf m) (end (netOf m) j d) (j + 1) (at next (arcOf j d))
-  pub leads : (j : ℕ) (d : Bool) → i ≤ j → at to (arcOf j d) ≡ end (netOf m) j (not d)
+  pub heads : (u : ℕ) → u < 64 → Heads (tableNet m) u i (at next (512 + u))
+  pub later : (j : ℕ) (d : Bool) → i ≤ j → j < m .count → Heads (tableNet m) (end (tableNet m) j d) (j + 1) (at next (arcOf j d))
+  pub leads : (j : ℕ) (d : Bool) → i ≤ j → at to (arcOf j d) ≡ end (tableNet m) j (not d)
 
 module _ {m : Mesh} (W : WellFormed m) where
   -- past the last link both ends are 0
-  end-past : (j : ℕ) (d : Bool) → m .count ≤ j → end (netOf m) j d ≡ 0
+  end-past : (j : ℕ) (d : Bool) → m .count ≤ j → end (tableNet m) j d ≡ 0
   end-past j false h = ap (λ l. l .low) (W .zeros j h)
   end-past j true h = ap (λ l. l .high) (W .zeros j h)
 
@@ -119,18 +118,18 @@ module _ {m : Mesh} (W : WellFormed m) where
     leads = λ j d h. replicate-at {A = ℕ} 512 0 (arcOf j d) ∙ sym (end-past j (not d) h);
   }
     where
-      empty : (u : ℕ) → u < m .nodes → at (replicate 576 512) (512 + u) ≡ 512
-      empty u h = getD-replicate 576 (512 + u) 512 0 (omega (arith, W .nodes-most))
+      empty : (u : ℕ) → u < 64 → at (replicate 576 512) (512 + u) ≡ 512
+      empty u h = getD-replicate 576 (512 + u) 512 0 (omega arith)
 
   -- ---- the turn of link k
 
   module _ {k : ℕ} (h : k < m .count) where
-    end-below : (d : Bool) → end (netOf m) k d < m .nodes
-    end-below false = omega (arith, W .joins k h .apart, W .joins k h .inside)
-    end-below true = W .joins k h .inside
+    end-below : (d : Bool) → end (tableNet m) k d < 64
+    end-below false = omega (arith, W .joins k h .apart, W .joins k h .inside, W .nodes-most)
+    end-below true = omega (arith, W .joins k h .inside, W .nodes-most)
 
     -- a node that is neither end
-    not-touched : (u : ℕ) → u ≢ link m k .low → u ≢ link m k .high → touches (netOf m) u k ≡ false
+    not-touched : (u : ℕ) → u ≢ link m k .low → u ≢ link m k .high → touches (tableNet m) u k ≡ false
     not-touched u n t = rw (ne-eqb (link m k .low) u (λ e. n (sym e)), ne-eqb (link m k .high) u (λ e. t (sym e))) refl
 
     -- its two arcs are put before those of its ends
@@ -138,12 +137,12 @@ module _ {m : Mesh} (W : WellFormed m) where
         (P : Put (2 * k) (512 + link m k .low) (link m k .high) next to next₁ to₁)
         (Q : Put (2 * k + 1) (512 + link m k .high) (link m k .low) next₁ to₁ next₂ to₂) where
       -- after each arc comes the one that was the first of its node
-      both-after : (d : Bool) → at next₂ (arcOf k d) ≡ at next (512 + end (netOf m) k d)
+      both-after : (d : Bool) → at next₂ (arcOf k d) ≡ at next (512 + end (tableNet m) k d)
       both-after false = ap (at next₂) (omega arith) ∙ Q .elsewhere (2 * k) (λ e. omega arith) (λ e. omega (arith, W .count-most)) ∙ P .after
       both-after true = Q .after ∙ P .elsewhere (512 + link m k .high) (λ e. omega (arith, W .count-most)) (λ e. omega (arith, W .joins k h .apart))
 
       -- each arc is now the first of its node
-      both-first : (d : Bool) → at next₂ (512 + end (netOf m) k d) ≡ arcOf k d
+      both-first : (d : Bool) → at next₂ (512 + end (tableNet m) k d) ≡ arcOf k d
       both-first false =
           Q .elsewhere (512 + link m k .low) (λ e. omega (arith, W .count-most)) (λ e. omega (arith, W .joins k h .apart))
           ∙ P .first
@@ -151,7 +150,7 @@ module _ {m : Mesh} (W : WellFormed m) where
       both-first true = Q .first
 
       -- each arc leads to its link's other end
-      both-lead : (d : Bool) → at to₂ (arcOf k d) ≡ end (netOf m) k (not d)
+      both-lead : (d : Bool) → at to₂ (arcOf k d) ≡ end (tableNet m) k (not d)
       both-lead false = ap (at to₂) (omega arith) ∙ Q .others (2 * k) (λ e. omega arith) ∙ P .leads
       both-lead true = Q .leads
 
@@ -182,23 +181,23 @@ module _ {m : Mesh} (W : WellFormed m) where
         leads = λ j d l. leads′ j d l (ℕ-discrete j k);
       }
         where
-          heads′ : (u : ℕ) → u < m .nodes → Dec (u ≡ link m k .low) → Dec (u ≡ link m k .high) → Heads (netOf m) u k (at next₂ (512 + u))
+          heads′ : (u : ℕ) → u < 64 → Dec (u ≡ link m k .low) → Dec (u ≡ link m k .high) → Heads (tableNet m) u k (at next₂ (512 + u))
           heads′ u b (yes e) _ = rw (e, both-first false) (heads-here k false h)
           heads′ u b (no n) (yes e) = rw (e, both-first true) (heads-here k true h)
           heads′ u b (no n) (no t) = rw (heads-kept u n t) (heads-pass (not-touched u n t) (C .heads u b))
 
-          later′ : (j : ℕ) (d : Bool) → k ≤ j → j < m .count → Dec (j ≡ k) → Heads (netOf m) (end (netOf m) j d) (j + 1) (at next₂ (arcOf j d))
-          later′ j d l b (yes e) = rw (e, both-after d) (C .heads (end (netOf m) k d) (end-below d))
+          later′ : (j : ℕ) (d : Bool) → k ≤ j → j < m .count → Dec (j ≡ k) → Heads (tableNet m) (end (tableNet m) j d) (j + 1) (at next₂ (arcOf j d))
+          later′ j d l b (yes e) = rw (e, both-after d) (C .heads (end (tableNet m) k d) (end-below d))
           later′ j d l b (no n) = rw (later-kept j d (omega arith) b) (C .later j d (omega arith) b)
 
-          leads′ : (j : ℕ) (d : Bool) → k ≤ j → Dec (j ≡ k) → at to₂ (arcOf j d) ≡ end (netOf m) j (not d)
+          leads′ : (j : ℕ) (d : Bool) → k ≤ j → Dec (j ≡ k) → at to₂ (arcOf j d) ≡ end (tableNet m) j (not d)
           leads′ j d l (yes e) = rw e (both-lead d)
           leads′ j d l (no n) = leads-kept j d (omega arith) ∙ C .leads j d (omega arith)
 
 module _ {m : Mesh} {i : ℕ} {next to : List ℕ} where
   -- both arcs are entries of the tables, and the ends are nodes below 64
   pub chaining-fits : 0 < i → Chaining m i next to → (2 * (i - 1) + 1 < 512) × (link m (i - 1) .low < 64) × (link m (i - 1) .high < 64)
-  chaining-fits l C = (omega (arith, C .inside, W .count-most), omega (arith, end-below W h false, W .nodes-most), omega (arith, end-below W h true, W .nodes-most))
+  chaining-fits l C = (omega (arith, C .inside, W .count-most), end-below W h false, end-below W h true)
     where
       W : WellFormed m
       W = C .formed
@@ -225,9 +224,9 @@ module _ {m : Mesh} {i : ℕ} {next to : List ℕ} where
   -- after the last turn
   pub chaining-all : i ≤ 0 → Chaining m i next to → Chained m next to
   chaining-all l C = record {
-    net-is = λ t. record { nodes = m .nodes; links = m .count; low = λ j. C .leads j true (omega arith) t; high = λ j. high-is j t };
+    net-is = λ t. record { nodes = 64; links = m .count; low = λ j. C .leads j true (omega arith) t; high = λ j. high-is j t };
     chains = record {
-      heads = λ u h. subst (λ k. Heads (netOf m) u k (at next (512 + u))) (omega arith) (C .heads u h);
+      heads = λ u h. subst (λ k. Heads (tableNet m) u k (at next (512 + u))) (omega arith) (C .heads u h);
       later = λ j d h. C .later j d (omega arith) h;
     };
   }

@@ -1,13 +1,16 @@
 -- What asking for the route gives on each way out of `collect`. Serves its proof. Assumes nothing.
 use Prim.Native.Nat.{ℕ, _<_, _≤_}
 use mathlib.Core.Path.{_≡_, _∙_}
-use mathlib.Core.Bool.{Bool, false}
+use mathlib.Core.Logic.{⊎-elim}
+use mathlib.Core.Bool.{Bool, true, false}
 use mathlib.Core.List.{List}
 use native.Mathlib.Omega.{arith}
 use borrow.Author.Tests.{lt-ltb, le-ltb, le-leb, lt-leb}
-use lib.ListN.{length}
+use lib.ListN.{length, take}
+use lib.Seq.{sets, take-append-seam}
+use Rattle.scan.specs.Test.{known}
 use Rattle.scan.specs.Store.{sets-front}
-use Rattle.scan.specs.Lowest.{lowest, any}
+use Rattle.scan.specs.Lowest.{any}
 use Rattle.graph.specs.Plan.{unreached}
 use Rattle.graph.specs.Laws.Refusal.{all-reached}
 use Rattle.mesh.specs.declared.Mesh.{Mesh}
@@ -15,12 +18,13 @@ use Rattle.mesh.specs.declared.Answer.{Answer}
 use Rattle.mesh.specs.declared.Answer.the-variants.{Accepted, Refused}
 use Rattle.mesh.specs.Mesh.{meshAnswer}
 use Rattle.mesh.specs.WellFormed.{InRange}
+use Rattle.mesh.specs.Laws.Checked.{passes}
 use Rattle.nets.specs.Nets.{netOf}
 use Rattle.nets.specs.Laws.Fits.{fits}
 use Rattle.collection.specs.declared.Collected.{Collected}
-use Rattle.collection.specs.Collection.{noLabels, routeOf, needed, collectAnswer, collected, outputAfter}
+use Rattle.collection.specs.Collection.{noLabels, routeOf, needed, apartAt, collectAnswer, collected, outputAfter}
 use Rattle.collection.specs.Walked.{WalkedFrom}
-use Rattle.collection.specs.Laws.Folded.{collects}
+use Rattle.collection.specs.Laws.Folded.{collects, connects, connected-all, most}
 
 -- the result r and the output `after` are what asking for the route from the root gives
 abbrev pub Gives : Mesh → ℕ → List ℕ → Collected → List ℕ → Type 0
@@ -42,26 +46,33 @@ module _ (m : Mesh) (root : ℕ) (out : List ℕ) where
     unfolding collectAnswer
     answer-root l = rw (ok, le-ltb root (m .nodes) l)
 
-    -- the root is a node, and v the lowest that node 0 does not reach, or the number of nodes
-    module _ (inside : root < m .nodes) {v : ℕ} (e : v ≡ lowest (unreached (netOf m)) (m .nodes)) where
-      pub answer-unreached : v < m .nodes → collectAnswer m root (length out) ≡ Refused 20 v
-      unfolding collectAnswer any
-      answer-unreached h = rw (ok, lt-ltb root (m .nodes) inside, ← e, lt-ltb v (m .nodes) h)
+    module _ (inside : root < m .nodes) where
+      -- the walk does not meet every node, so some two have no path between them
+      pub answer-apart : length (routeOf m root) < needed m → InRange m → collectAnswer m root (length out) ≡ Refused 20 (apartAt m)
+      unfolding collectAnswer
+      answer-apart h g = rw (ok, lt-ltb root (m .nodes) inside, ⊎-elim (λ t. t) (λ f. absurd (omega (arith, entries f))) (known (any (unreached (netOf m)) (m .nodes))))
+        where
+          entries : any (unreached (netOf m)) (m .nodes) ≡ false → length (routeOf m root) ≡ needed m
+          entries f = collects m ok root inside g (all-reached (fits m ok) f) .entries
 
-      module _ (h : m .nodes ≤ v) where
+      -- it does
+      module _ (h : needed m ≤ length (routeOf m root)) where
         none : any (unreached (netOf m)) (m .nodes) ≡ false
-        unfolding any
-        none = rw (← e) (le-ltb v (m .nodes) h)
+        none = connected-all m ok (connects m ok root inside h)
 
         pub answer-short : length out < needed m → collectAnswer m root (length out) ≡ Refused 11 (needed m)
         unfolding collectAnswer
         answer-short s = rw (ok, lt-ltb root (m .nodes) inside, none, lt-leb (needed m) (length out) s)
 
-        pub gives-all : InRange m → needed m ≤ length out → {n : ℕ} {labels : List Bool} {after : List ℕ} → WalkedFrom m root noLabels out n labels after
-            → Gives m root out (record { tree = labels; count = n; answer = Accepted }) after
+        -- the route is copied from the front of the walk's own
+        pub gives-all : needed m ≤ length out → {n : ℕ} {labels : List Bool} {before route after : List ℕ} → length before ≡ 127 → WalkedFrom m root noLabels before n labels route
+            → after ≡ sets out 0 (take n route) → Gives m root out (record { tree = labels; count = n; answer = Accepted }) after
         unfolding collected outputAfter collectAnswer
-        gives-all g s W =
-            let room : length (routeOf m root) ≤ length out = omega (arith, collects m g ok root inside (all-reached (fits m ok) none) .entries) in (
-              rw (ok, lt-ltb root (m .nodes) inside, none, le-leb (needed m) (length out) s, W .entries, W .links),
-              W .written ∙ sets-front (routeOf m root) out room ∙ rw (ok, lt-ltb root (m .nodes) inside, none, le-leb (needed m) (length out) s),
+        gives-all s {before} w W e =
+            let most : length (routeOf m root) ≤ needed m = most m ok root inside in
+            let few = passes m ok .nodes-most in
+            let front : take (length (routeOf m root)) (sets before 0 (routeOf m root)) ≡ routeOf m root
+            = rw (sets-front (routeOf m root) before (omega arith)) (take-append-seam (routeOf m root) _) in (
+              rw (ok, lt-ltb root (m .nodes) inside, none, le-leb (needed m) (length out) s, W .entries, W .labels-are),
+              e ∙ rw (W .entries, W .written, front, sets-front (routeOf m root) out (omega arith), ok, lt-ltb root (m .nodes) inside, none, le-leb (needed m) (length out) s),
             )

@@ -2,16 +2,16 @@
 -- route, and all of it on a refusal. Assumes nothing.
 use Prim.Native.Nat.{ℕ, _<_, _≤_}
 use mathlib.Core.Path.{_≡_, refl, sym, subst, _∙_}
-use mathlib.Core.Logic.{_↔_, ⊎-elim}
-use mathlib.Core.Bool.{false, not}
+use mathlib.Core.Logic.{_↔_}
+use mathlib.Core.Bool.{not}
 use mathlib.Core.List.{List}
 use borrow.Author.Tests.{not-true, not-false, ltb-true, ltb-false, leb-true, leb-false, lt-ltb, le-ltb, le-leb, lt-leb}
 use lib.Dec.{ltb, leb}
 use lib.ListN.{length, take, drop}
-use Rattle.scan.specs.Test.{branch, known}
+use Rattle.scan.specs.Test.{branch}
 use Rattle.scan.specs.Lowest.{any}
 use Rattle.graph.specs.Plan.{unreached}
-use Rattle.graph.specs.Laws.Refusal.{all-reached, unreached-iff}
+use Rattle.graph.specs.Laws.Refusal.{all-reached}
 use Rattle.mesh.specs.declared.Mesh.{Mesh}
 use Rattle.mesh.specs.declared.Answer.{Answer}
 use Rattle.mesh.specs.declared.Answer.the-variants.{Accepted, Refused}
@@ -24,7 +24,7 @@ use Rattle.nets.specs.Laws.NoPath.{any-unreached, no-path-any, no-path-lowest}
 use Rattle.depth_first.specs.Folded.{Folded}
 use Rattle.collection.specs.Collection.{noLabels, treeOf, routeOf, labelsOf, needed, collectAnswer, collectedAs, collected, outputAfter}
 use Rattle.collection.specs.Meaning.{Connected, Refusal, mesh-refused, no-such-root, no-path, output-short}
-use Rattle.collection.specs.Laws.Folded.{collects}
+use Rattle.collection.specs.Laws.Folded.{collects, connected-all}
 
 -- ---- the answer
 
@@ -53,10 +53,6 @@ answered m root room = go (collectAnswer m root room)
     go : (a : Answer) → collectedAs a (labelsOf m root) (length (routeOf m root)) .answer ≡ a
     go Accepted = refl
     go (Refused number place) = refl
-
--- in a connected mesh the test for 20 does not pass
-connected-all : (m : Mesh) → meshAnswer m ≡ Accepted → Connected m → any (unreached (netOf m)) (m .nodes) ≡ false
-connected-all m ok strong = ⊎-elim (λ t. let (u, v, hu, hv, n) = unreached-iff (fits m ok) .0 t in absurd (n (strong u v hu hv))) (λ f. f) (known (any (unreached (netOf m)) (m .nodes)))
 
 -- each refusal on its own condition
 refused-only : (m : Mesh) (root room number place : ℕ) → collected m root room .answer ≡ Refused number place → Refusal m root room number place
@@ -99,7 +95,7 @@ module _ (m : Mesh) (root : ℕ) (out : List ℕ) where
   accepted-writes r e =
       let a : collectAnswer m root (length out) ≡ Accepted = sym (answered m root (length out)) ∙ e in
       let (ok, l, c, s) = accepted-only m root (length out) e in
-      let n = collects m r ok root l c .entries in
+      let n = collects m ok root l r c .entries in
       let (written, kept) = output-written a (routeOf m root) out in
       (rw a, rw a n, rw (← n) written, rw (← n) kept)
 
@@ -109,7 +105,7 @@ module _ (m : Mesh) (root : ℕ) (out : List ℕ) where
   accepted-collects r e =
       let (labels, n, written, kept) = accepted-writes r e in
       let (ok, l, c, s) = accepted-only m root (length out) e in
-      rw (labels, n, written) (collects m r ok root l c)
+      rw (labels, n, written) (collects m ok root l r c)
 
   -- on a refusal no link is labelled, no entry counted, and the output as it was
   pub refusal-told : (number place : ℕ) → collected m root (length out) .answer ≡ Refused number place

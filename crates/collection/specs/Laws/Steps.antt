@@ -16,7 +16,7 @@ use Rattle.scan.specs.Store.{sets-append}
 use Rattle.graph.specs.Net.{Net, Fits}
 use Rattle.depth_first.specs.Tree.{Tree, branch, marked, visited, labelled, tour}
 use Rattle.depth_first.specs.Search.{touches, far, opens, unvisited, visiting, following, visit, follow}
-use Rattle.depth_first.specs.Laws.Unfold.{length-visited, unvisited-new, visiting-new, visiting-le, opens-says, opens-new, visit-is, follow-end, follow-pass, follow-take}
+use Rattle.depth_first.specs.Laws.Unfold.{visited-extends, wide-set, unvisited-new, visiting-new, visiting-le, opens-says, opens-new, visit-is, follow-end, follow-pass, follow-take}
 use Rattle.depth_first.specs.Laws.Follows.{visits-is, tour-length}
 use Rattle.collection.specs.Arcs.{netOfArcs, Leaves, Heads}
 use Rattle.collection.specs.Walked.{CanTry, CanVisit, CanFollow, Next, Walked, Visited, Followed}
@@ -24,7 +24,7 @@ use Rattle.collection.specs.Laws.Chain.{head-below, leaves-far, leaves-o
 
 -- ---- links that are passed over
 
-module _ (G : Net) (F : Fits G) (u : ℕ) (s : List Bool) (sized : length s ≡ G .nodes) where
+module _ (G : Net) (F : Fits G) (u : ℕ) (s : List Bool) (sized : G .nodes ≤ length s) where
   -- those from k on and before b lead to no new node
   skip : (d k b : ℕ) → k + d ≡ b → ((j : ℕ) → k ≤ j → j < b → j < G .links → opens G s u j ≡ false) → follow G k u s ≡ follow G b u s
   skip zero k b e h = ap (λ (n : ℕ). follow G n u s) (omega arith)
@@ -41,159 +41,161 @@ module _ (G : Net) (F : Fits G) (u : ℕ) (s : List Bool) (sized : length s ≡ 
 -- ---- stores
 
 -- the walk to v and below it, back to u, and on
-compose : (below rest : Tree) (k v u : ℕ) {place back r : ℕ} {seen labels s₁ t₀ t₁ seen′ labels′ : List Bool} {out o₁ out′ : List ℕ} → t₀ ≡ set labels k true
-    → Walked below (v ∷ tour v below) place (set seen v true) t₀ out back s₁ t₁ o₁
-    → Walked rest (tour u rest) (back + 1) s₁ t₁ (set o₁ back u) r seen′ labels′ out′
-    → Walked (branch k v below rest) (tour u (branch k v below rest)) place seen labels out r seen′ labels′ out′
+compose : (below rest : Tree) (k v u : ℕ) {place back r : ℕ} {seen labels s₁ t₀ t₁ seen′ labels′ : List Bool} {route o₁ route′ : List ℕ} → t₀ ≡ set labels k true
+    → Walked below (v ∷ tour v below) place (set seen v true) t₀ route back s₁ t₁ o₁
+    → Walked rest (tour u rest) (back + 1) s₁ t₁ (set o₁ back u) r seen′ labels′ route′
+    → Walked (branch k v below rest) (tour u (branch k v below rest)) place seen labels route r seen′ labels′ route′
 unfolding marked tour
-compose below rest k v u {place} {back} {out} {o₁} label A X = record {
+compose below rest k v u {place} {back} {route} {o₁} label A X = record {
   next = omega (arith, X .next, A .next, length-append (tour v below) (u ∷ tour u rest));
-  nodes = X .nodes ∙ ap (visited rest) (A .nodes);
-  links = X .links ∙ ap (labelled rest) (A .links ∙ ap (labelled below) label);
+  seen-is = X .seen-is ∙ ap (visited rest) (A .seen-is);
+  labels-are = X .labels-are ∙ ap (labelled rest) (A .labels-are ∙ ap (labelled below) label);
   written =
       X .written
       ∙ ap (λ (m : ℕ). sets (set o₁ back u) m (tour u rest)) (add-one back)
       ∙ ap (λ (m : ℕ). sets o₁ m (u ∷ tour u rest)) (A .next)
       ∙ ap (λ (o : List ℕ). sets o (place + length (v ∷ tour v below)) (u ∷ tour u rest)) (A .written)
-      ∙ sym (sets-append out place (v ∷ tour v below) (u ∷ tour u rest));
+      ∙ sym (sets-append route place (v ∷ tour v below) (u ∷ tour u rest));
 }
 
 module _ (next to : List ℕ) (links : ℕ) where
-  abbrev net : ℕ → Net
-  net n = netOfArcs n links to
+  abbrev G : Net
+  G = netOfArcs 64 links to
 
   -- ---- a visit
-  module _ {u place : ℕ} {seen : List Bool} {out : List ℕ} (C : CanVisit (net (length seen)) next u place seen out) where
-    fewer : unvisited (net (length seen)) seen ≡ suc (unvisited (net (length seen)) (set seen u true))
-    fewer = unvisited-new (net (length seen)) seen u refl (C .inside) (C .new)
+  module _ {u place : ℕ} {seen : List Bool} {route : List ℕ} (C : CanVisit G next u place seen route) where
+    flags : 64 ≤ length seen
+    flags = omega (arith, C .flags)
 
-    head : Heads (net (length seen)) u 0 (at next (512 + u))
+    fewer : unvisited G seen ≡ suc (unvisited G (set seen u true))
+    fewer = unvisited-new G seen u flags (C .inside) (C .new)
+
+    head : Heads G u 0 (at next (512 + u))
     head = C .can .chains .heads u (C .inside)
 
-    pub visit-room : place < length out
+    pub visit-room : place < 127
     visit-room = omega (arith, fewer, C .room)
 
-    pub visit-can-follow : CanFollow (net (length (set seen u true))) next u (at next (512 + u)) (place + 1) (set seen u true) (set out place u)
-    visit-can-follow =
-        rw (length-set seen u true)
-        (record { can = C .can; leaves = head .leaves; room = rw (length-set out place u) (omega (arith, fewer, C .room)) })
+    pub visit-can-follow : CanFollow G next u (at next (512 + u)) (place + 1) (set seen u true) (set route place u)
+    visit-can-follow = record {
+      can = C .can;
+      leaves = head .leaves;
+      flags = length-set seen u true ∙ C .flags;
+      entries = length-set route place u ∙ C .entries;
+      room = omega (arith, fewer, C .room);
+    }
 
-    pub visit-falls : following (net (length (set seen u true))) (set seen u true) (at next (512 + u) / 2) < visiting (net (length seen)) seen
+    pub visit-falls : following G (set seen u true) (at next (512 + u) / 2) < visiting G seen
     unfolding following
-    visit-falls = rw (length-set seen u true) (omega (arith, visiting-new (net (length seen)) seen u refl (C .inside) (C .new)))
+    visit-falls = omega (arith, visiting-new G seen u flags (C .inside) (C .new))
 
-    pub visit-walked : {labels : List Bool} {r : ℕ} {seen′ labels′ : List Bool} {out′ : List ℕ}
-        → Followed (net (length (set seen u true))) u (at next (512 + u)) (place + 1) (set seen u true) labels (set out place u) r seen′ labels′ out′
-        → Visited (net (length seen)) u place seen labels out r seen′ labels′ out′
-    visit-walked {labels} {r} {seen′} {labels′} {out′} W =
-        let G = net (length seen) in
-        let a = at next (512 + u) in
-        subst (λ (T : Tree). Walked T (u ∷ tour u T) place (set seen u true) labels out r seen′ labels′ out′)
-        (sym (visit-is G (C .can .fits) u seen refl (C .inside) (C .new) ∙ to-head G (C .can .fits) u (set seen u true) (length-set seen u true) head))
-        (go (subst (λ (n : ℕ). Followed (net n) u a (place + 1) (set seen u true) labels (set out place u) r seen′ labels′ out′) (length-set seen u true) W))
-      where
-        go : Followed (net (length seen)) u (at next (512 + u)) (place + 1) (set seen u true) labels (set out place u) r seen′ labels′ out′
-            → let T = follow (net (length seen)) (at next (512 + u) / 2) u (set seen u true) in Walked T (u ∷ tour u T) place (set seen u true) labels out r seen′ labels′ out′
-        go X = record {
-          next = omega (arith, X .next);
-          nodes = X .nodes;
-          links = X .links;
-          written = X .written ∙ ap (λ (m : ℕ). sets (set out place u) m (tour u (follow (net (length seen)) (at next (512 + u) / 2) u (set seen u true)))) (add-one place);
-        }
+    pub visit-walked : {labels : List Bool} {r : ℕ} {seen′ labels′ : List Bool} {route′ : List ℕ}
+        → Followed G u (at next (512 + u)) (place + 1) (set seen u true) labels (set route place u) r seen′ labels′ route′
+        → Visited G u place seen labels route r seen′ labels′ route′
+    visit-walked {labels} {r} {seen′} {labels′} {route′} W =
+        subst (λ (T : Tree). Walked T (u ∷ tour u T) place (set seen u true) labels route r seen′ labels′ route′)
+        (sym (visit-is G (C .can .fits) u seen flags (C .inside) (C .new) ∙ to-head G (C .can .fits) u (set seen u true) (wide-set seen u flags) head))
+        (record {
+          next = omega (arith, W .next);
+          seen-is = W .seen-is;
+          labels-are = W .labels-are;
+          written = W .written ∙ ap (λ (m : ℕ). sets (set route place u) m (tour u (follow G (at next (512 + u) / 2) u (set seen u true)))) (add-one place);
+        })
 
   -- ---- links from that of an arc on, of which a is the next that leads to a new node
-  module _ {u arc place : ℕ} {seen : List Bool} {out : List ℕ} (C : CanFollow (net (length seen)) next u arc place seen out)
-      {a : ℕ} (N : Next (net (length seen)) seen arc a) where
-    abbrev F : Fits (net (length seen))
+  module _ {u arc place : ℕ} {seen : List Bool} {route : List ℕ} (C : CanFollow G next u arc place seen route) {a : ℕ} (N : Next G seen arc a) where
+    abbrev F : Fits G
     F = C .can .fits
 
-    to-next : follow (net (length seen)) (arc / 2) u seen ≡ follow (net (length seen)) (a / 2) u seen
-    to-next = skip (net (length seen)) F u seen refl (a / 2 - arc / 2) (arc / 2) (a / 2) (let f = N .passed .from in omega arith) (N .passed .visited u (C .leaves))
+    all-flags : 64 ≤ length seen
+    all-flags = omega (arith, C .flags)
+
+    to-next : follow G (arc / 2) u seen ≡ follow G (a / 2) u seen
+    to-next = skip G F u seen all-flags (a / 2 - arc / 2) (arc / 2) (a / 2) (let f = N .passed .from in omega arith) (N .passed .visited u (C .leaves))
 
     -- there is none
-    pub follow-done : {labels : List Bool} → links ≤ a / 2 → Followed (net (length seen)) u arc place seen labels out place seen labels out
+    pub follow-done : {labels : List Bool} → links ≤ a / 2 → Followed G u arc place seen labels route place seen labels route
     unfolding marked tour
     follow-done h =
-        rw (to-next ∙ follow-end (net (length seen)) F u seen refl (a / 2) h)
-        (record { next = sym (add-zero place); nodes = refl; links = refl; written = refl })
+        rw (to-next ∙ follow-end G F u seen all-flags (a / 2) h)
+        (record { next = sym (add-zero place); seen-is = refl; labels-are = refl; written = refl })
 
     module _ (h : a / 2 < links) where
-      leaves : Leaves (net (length seen)) u a
+      leaves : Leaves G u a
       leaves = N .passed .leaves u (C .leaves)
 
-      opened : opens (net (length seen)) seen u (a / 2) ≡ true
+      opened : opens G seen u (a / 2) ≡ true
       opened = N .leads u (C .leaves) h
 
-      inside : at to a < length seen
-      inside = head-below (length seen) links to F a h
+      inside : at to a < 64
+      inside = head-below 64 links to F a h
 
       new : has seen (at to a) ≡ false
-      new = not-true _ (sym (leaves-opens (length seen) links to seen leaves h) ∙ opened)
+      new = not-true _ (sym (leaves-opens 64 links to seen leaves h) ∙ opened)
 
       pub take-arc : a < 512
       take-arc = omega (arith, C .can .few)
 
-      pub take-can-visit : CanVisit (net (length seen)) next (at to a) place seen out
-      take-can-visit = record { can = C .can; inside = inside; new = new; room = omega (arith, C .room) }
+      pub take-can-visit : CanVisit G next (at to a) place seen route
+      take-can-visit = record { can = C .can; inside = inside; new = new; flags = C .flags; entries = C .entries; room = omega (arith, C .room) }
 
-      pub take-falls : visiting (net (length seen)) seen < following (net (length seen)) seen (arc / 2)
+      pub take-falls : visiting G seen < following G seen (arc / 2)
       unfolding following
       take-falls = let f = N .passed .from in omega arith
 
       -- the new node has been visited
-      module _ {t₀ : List Bool} {back : ℕ} {s₁ t₁ : List Bool} {o₁ : List ℕ} (A : Visited (net (length seen)) (at to a) place seen t₀ out back s₁ t₁ o₁) where
+      module _ {t₀ : List Bool} {back : ℕ} {s₁ t₁ : List Bool} {o₁ : List ℕ} (A : Visited G (at to a) place seen t₀ route back s₁ t₁ o₁) where
         below : Tree
-        below = visit (net (length seen)) (at to a) seen
+        below = visit G (at to a) seen
 
-        sized : length s₁ ≡ length seen
+        marked-flags : 64 ≤ length (set seen (at to a) true)
+        marked-flags = wide-set seen (at to a) all-flags
+
+        flags-after : length s₁ ≡ 64
         unfolding below
-        sized = ap length (A .nodes) ∙ length-visited below (set seen (at to a) true) ∙ length-set seen (at to a) true
+        flags-after = ap length (A .seen-is) ∙ visited-extends below (set seen (at to a) true) .sized ∙ length-set seen (at to a) true ∙ C .flags
 
-        wide : length o₁ ≡ length out
-        unfolding below
-        wide = ap length (A .written) ∙ length-sets out place (at to a ∷ tour (at to a) below)
-
-        used : back + 2 * unvisited (net (length seen)) s₁ + 1 ≡ place + 2 * unvisited (net (length seen)) seen
+        used : back + 2 * unvisited G s₁ + 1 ≡ place + 2 * unvisited G seen
         unfolding below
         used =
-            let G = net (length seen) in
-            let e = tour-length G (length-set seen (at to a) true) (visits-is G F (at to a) seen refl inside new) in
-            let b : unvisited G s₁ ≡ unvisited G (visited below (set seen (at to a) true)) = ap (unvisited G) (A .nodes) in
-            omega (arith, e, b, A .next, unvisited-new G seen (at to a) refl inside new)
+            let e = tour-length G marked-flags (visits-is G F (at to a) seen all-flags inside new) in
+            let b : unvisited G s₁ ≡ unvisited G (visited below (set seen (at to a) true)) = ap (unvisited G) (A .seen-is) in
+            omega (arith, e, b, A .next, unvisited-new G seen (at to a) all-flags inside new)
 
-        pub again-room : back < length o₁
-        again-room = omega (arith, used, wide, C .room)
+        pub again-room : back < 127
+        again-room = omega (arith, used, C .room)
 
-        after : Heads (net (length seen)) u (a / 2 + 1) (at next a)
-        after = heads-after (length seen) links to (C .can) leaves h
+        after : Heads G u (a / 2 + 1) (at next a)
+        after = heads-after 64 links to (C .can) leaves h
 
-        pub again-can-follow : CanFollow (net (length s₁)) next u (at next a) (back + 1) s₁ (set o₁ back u)
-        again-can-follow = rw sized (record { can = C .can; leaves = after .leaves; room = rw (length-set o₁ back u) (omega (arith, used, wide, C .room)) })
+        pub again-can-follow : CanFollow G next u (at next a) (back + 1) s₁ (set o₁ back u)
+        unfolding below
+        again-can-follow = record {
+          can = C .can;
+          leaves = after .leaves;
+          flags = flags-after;
+          entries = length-set o₁ back u ∙ ap length (A .written) ∙ length-sets route place (at to a ∷ tour (at to a) below) ∙ C .entries;
+          room = omega (arith, used, C .room);
+        }
 
-        pub again-falls : following (net (length s₁)) s₁ (at next a / 2) < following (net (length seen)) seen (arc / 2)
+        pub again-falls : following G s₁ (at next a / 2) < following G seen (arc / 2)
         unfolding following below
         again-falls =
-            rw (sized, A .nodes)
-            (omega (
-              arith,
-              visiting-le (net (length seen)) below (set seen (at to a) true),
-              visiting-new (net (length seen)) seen (at to a) refl inside new,
-            ))
+            rw (A .seen-is)
+            (omega (arith, visiting-le G below (set seen (at to a) true), visiting-new G seen (at to a) all-flags inside new))
 
-        shape : follow (net (length seen)) (arc / 2) u seen ≡ branch (a / 2) (at to a) (visit (net (length seen)) (at to a) seen) (follow (net (length seen)) (at next a / 2) u s₁)
+        shape : follow G (arc / 2) u seen ≡ branch (a / 2) (at to a) (visit G (at to a) seen) (follow G (at next a / 2) u s₁)
         shape =
-            let G = net (length seen) in
+            let f : 64 ≤ length s₁ = omega (arith, flags-after) in
             to-next
             ∙ subst (λ (w : ℕ). follow G (a / 2) u seen ≡ branch (a / 2) w (visit G w seen) (follow G (a / 2 + 1) u (visited (visit G w seen) (set seen w true))))
-            (leaves-far (length seen) links to leaves h) (follow-take G F u seen refl (a / 2) h opened)
-            ∙ ap (λ (s : List Bool). branch (a / 2) (at to a) (visit G (at to a) seen) (follow G (a / 2 + 1) u s)) (sym (A .nodes))
-            ∙ ap (λ (T : Tree). branch (a / 2) (at to a) (visit G (at to a) seen) T) (to-head G F u s₁ sized after)
+            (leaves-far 64 links to leaves h) (follow-take G F u seen all-flags (a / 2) h opened)
+            ∙ ap (λ (s : List Bool). branch (a / 2) (at to a) (visit G (at to a) seen) (follow G (a / 2 + 1) u s)) (sym (A .seen-is))
+            ∙ ap (λ (T : Tree). branch (a / 2) (at to a) (visit G (at to a) seen) T) (to-head G F u s₁ f after)
 
-        pub again-walked : (labels : List Bool) → t₀ ≡ set labels (a / 2) true → {r : ℕ} {seen′ labels′ : List Bool} {out′ : List ℕ}
-            → Followed (net (length s₁)) u (at next a) (back + 1) s₁ t₁ (set o₁ back u) r seen′ labels′ out′
-            → Followed (net (length seen)) u arc place seen labels out r seen′ labels′ out′
-        again-walked labels label {r} {seen′} {labels′} {out′} W =
-            let G = net (length seen) in
-            subst (λ (T : Tree). Walked T (tour u T) place seen labels out r seen′ labels′ out′) (sym shape)
-            (compose (visit G (at to a) seen) (follow G (at next a / 2) u s₁) (a / 2) (at to a) u label A
-            (subst (λ (n : ℕ). Followed (net n) u (at next a) (back + 1) s₁ t₁ (set o₁ back u) r seen′ labels′ out′) sized W))
+        pub again-walked : (labels : List Bool) → t₀ ≡ set labels (a / 2) true → {r : ℕ} {seen′ labels′ : List Bool} {route′ : List ℕ}
+            → Followed G u (at next a) (back + 1) s₁ t₁ (set o₁ back u) r seen′ labels′ route′
+            → Followed G u arc place seen labels route r seen′ labels′ route′
+        again-walked labels label {r} {seen′} {labels′} {route′} W =
+            subst (λ (T : Tree). Walked T (tour u T) place seen labels route r seen′ labels′ route′) (sym shape)
+            (compose (visit G (at to a) seen) (follow G (at next a / 2) u s₁) (a / 2) (at to a) u label A W)

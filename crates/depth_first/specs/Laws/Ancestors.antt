@@ -55,7 +55,7 @@ module _ (G : Net) where
   closes {k} {u} {s} {T} (pass k< o p) =
       let c = closes p in
       record { own = tried-more (opens-less s (visited T s) (visited-extends T s) u k o) (c .own); new = c .new }
-  closes {k} {u} {s} {T = tree.branch _ _ below rest} (take v e k< t f v< p q) =
+  closes {k} {u} {s} {T = tree.branch _ _ below rest} (take v e k< t f vn v< p q) =
       let s₁ = set s v true in
       let s₂ = visited below s₁ in
       let x = visited-extends rest s₂ in
@@ -111,7 +111,7 @@ module _ (G : Net) where
   unfolding marked
   related (done d) i a b l n j (f, t) y = clash t f
   related (pass k< o p) i a b l n j x y = related p i a b l n j x y
-  related {k} {u} {s} {T = tree.branch _ _ below rest} (take v e k< t f v< p q) i a b l n j x y =
+  related {k} {u} {s} {T = tree.branch _ _ below rest} (take v e k< t f vn v< p q) i a b l n j x y =
       let s₁ = set s v true in
       let s₂ = visited below s₁ in
       let c = closes p in

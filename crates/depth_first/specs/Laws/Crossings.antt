@@ -87,7 +87,7 @@ module _ (G : Net) where
     unfolding crossings tour marked
     tour-leads (done d) t l x = here
     tour-leads (pass k< o p) t l x = tour-leads p t l x
-    tour-leads {k} {u} {T = tree.branch _ _ below rest} (take v e k< h f v< p q) t l x =
+    tour-leads {k} {u} {T = tree.branch _ _ below rest} (take v e k< h f vn v< p q) t l x =
         let t₁ = set t k true in
         let y = extends-trans (labelled-extends rest (labelled below t₁)) x in
         let in-tree = y .keeps k (labelled-extends below t₁ .keeps k (getD-set-same t k true false (omega arith))) in
@@ -126,7 +126,7 @@ module _ (G : Net) where
   unfolding crossings times marked tour
   crossed (done d) g t l m = record { counts = λ i d. omega arith; number = omega arith; only = λ i h. inl h; ended = m }
   crossed (pass k< o p) g t l m = crossed p g t l m
-  crossed {k} {u} {s} {T = tree.branch _ _ below rest} (take v e k< h f v< p q) g t l m =
+  crossed {k} {u} {s} {T = tree.branch _ _ below rest} (take v e k< h f vn v< p q) g t l m =
       let s₁ = set s v true in
       let t₁ = set t k true in
       let (near, other) = ends-at u k h in

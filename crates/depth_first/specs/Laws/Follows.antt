@@ -5,7 +5,7 @@ use mathlib.Core.Logic.{_⊎_, inl, inr, ⊎-elim}
 use mathlib.Core.Bool.{Bool, true, false, cond}
 use mathlib.Core.List.{List, _∷_, List·Memᴰ, List·Memᴰ·head, List·Memᴰ·tail}
 use native.Mathlib.Omega.{arith}
-use lib.ListN.{length, set, length-set, length-append}
+use lib.ListN.{length, set, length-append}
 use lib.Dec.{ltb}
 use lib.Seq.{getD-set-same}
 use borrow.Author.Tests.{ltb-true, ltb-false}
@@ -17,7 +17,7 @@ use Rattle.depth_first.specs.Tree as tree
 use Rattle.depth_first.specs.Tree.{Tree, leaf, branch, marked, visited, tour}
 use Rattle.depth_first.specs.Search.{touches, far, opens, unvisited, visiting, following, visitBy, followBy, visit, follow}
 use Rattle.depth_first.specs.Folded.{Met, now, deeper, later}
-use Rattle.depth_first.specs.Laws.Unfold.{visited-extends, length-visited, unvisited-new, visiting-new, visiting-le, opens-says, opens-new, far-below}
+use Rattle.depth_first.specs.Laws.Unfold.{visited-extends, wide-set, wide-visited, unvisited-new, visiting-new, visiting-le, opens-says, opens-new, far-below}
 
 -- ---- the relation
 
@@ -26,15 +26,15 @@ module _ (G : Net) where
   pub data Follows : ℕ → ℕ → List Bool → Tree → Type 0 where
     done : {k u : ℕ} {s : List Bool} → G .links ≤ k → Follows k u s leaf
     pass : {k u : ℕ} {s : List Bool} {T : Tree} → k < G .links → opens G s u k ≡ false → Follows (k + 1) u s T → Follows k u s T
-    take : {k u : ℕ} {s : List Bool} {below rest : Tree} (v : ℕ) → v ≡ far G u k → k < G .links → touches G u k ≡ true → has s v ≡ false → v < length s
+    take : {k u : ℕ} {s : List Bool} {below rest : Tree} (v : ℕ) → v ≡ far G u k → k < G .links → touches G u k ≡ true → has s v ≡ false → v < G .nodes → v < length s
         → Follows 0 v (set s v true) below → Follows (k + 1) u (visited below (set s v true)) rest → Follows k u s (branch k v below rest)
 
   module _ (F : Fits G) where
     open Net G using (nodes, links)
 
     record Gives (n : ℕ) : Type 0 where
-      visits : (u : ℕ) (s : List Bool) → length s ≡ nodes → u < nodes → has s u ≡ false → visiting G s ≤ n → Follows 0 u (set s u true) (visitBy G n u s)
-      follows : (k u : ℕ) (s : List Bool) → length s ≡ nodes → following G s k ≤ n → Follows k u s (followBy G n k u s)
+      visits : (u : ℕ) (s : List Bool) → nodes ≤ length s → u < nodes → has s u ≡ false → visiting G s ≤ n → Follows 0 u (set s u true) (visitBy G n u s)
+      follows : (k u : ℕ) (s : List Bool) → nodes ≤ length s → following G s k ≤ n → Follows k u s (followBy G n k u s)
 
     gives : (n : ℕ) → Gives n
     unfolding visitBy following
@@ -48,11 +48,11 @@ module _ (G : Net) where
         step S = record {
           visits = λ u s e h f a.
               let w = visiting-new G s u e h f in
-              S .follows 0 u (set s u true) (length-set s u true ∙ e) (omega arith);
+              S .follows 0 u (set s u true) (wide-set s u e) (omega arith);
           follows = λ k u s e a. go k u s e a (ltb k links) refl (opens G s u k) refl;
         }
           where
-            go : (k u : ℕ) (s : List Bool) → length s ≡ nodes → visiting G s + (links - k) ≤ suc n
+            go : (k u : ℕ) (s : List Bool) → nodes ≤ length s → visiting G s + (links - k) ≤ suc n
                 → (t : Bool) → ltb k links ≡ t → (o : Bool) → opens G s u k ≡ o
                 → Follows k u s (cond t (cond o (branch k (far G u k) (visitBy G n (far G u k) s) (followBy G n (k + 1) u (visited (visitBy G n (far G u k) s) (set s (far G u k) true)))) (followBy G n (k + 1) u s)) leaf)
             go k u s e a true l true o =
@@ -64,30 +64,30 @@ module _ (G : Net) where
                 let s₁ = set s (far G u k) true in
                 let d = visiting-le G B s₁ in
                 let in-list : far G u k < length s = omega arith in
-                take (far G u k) refl k< (opens-says G s u k .0 o .0) f in-list (S .visits (far G u k) s e v< f (omega arith))
-                (S .follows (k + 1) u (visited B s₁) (length-visited B s₁ ∙ length-set s (far G u k) true ∙ e) (omega arith))
+                take (far G u k) refl k< (opens-says G s u k .0 o .0) f v< in-list (S .visits (far G u k) s e v< f (omega arith))
+                (S .follows (k + 1) u (visited B s₁) (wide-visited B s₁ (wide-set s (far G u k) e)) (omega arith))
             go k u s e a true l false o =
                 let k< = ltb-true k links l in
                 pass k< o (S .follows (k + 1) u s e (omega arith))
             go k u s e a false l o p = done (ltb-false k links l)
 
     -- a visit of a new node is related to its tree
-    pub visits-is : (u : ℕ) (s : List Bool) → length s ≡ nodes → u < nodes → has s u ≡ false → Follows 0 u (set s u true) (visit G u s)
+    pub visits-is : (u : ℕ) (s : List Bool) → nodes ≤ length s → u < nodes → has s u ≡ false → Follows 0 u (set s u true) (visit G u s)
     unfolding visit
     visits-is u s e h f = gives (visiting G s) .visits u s e h f (omega arith)
 
   -- ---- how long the walk is: two entries for each node that it visits
 
-  pub tour-length : {k u : ℕ} {s : List Bool} {T : Tree} → length s ≡ G .nodes → Follows k u s T → length (tour u T) + 2 * unvisited G (visited T s) ≡ 2 * unvisited G s
+  pub tour-length : {k u : ℕ} {s : List Bool} {T : Tree} → G .nodes ≤ length s → Follows k u s T → length (tour u T) + 2 * unvisited G (visited T s) ≡ 2 * unvisited G s
   unfolding tour marked
   tour-length e (done d) = omega arith
   tour-length e (pass k< o p) = tour-length e p
-  tour-length {k} {u} {s} {T = tree.branch _ _ below rest} e (take v i k< t f v< p q) =
+  tour-length {k} {u} {s} {T = tree.branch _ _ below rest} e (take v i k< t f vn v< p q) =
       let s₁ = set s v true in
-      let e₁ : length s₁ ≡ G .nodes = length-set s v true ∙ e in
+      let e₁ = wide-set s v e in
       let a = tour-length e₁ p in
-      let b = tour-length (length-visited below s₁ ∙ e₁) q in
-      omega (arith, a, b, unvisited-new G s v e (omega arith) f, length-append (tour v below) (u ∷ tour u rest))
+      let b = tour-length (wide-visited below s₁ e₁) q in
+      omega (arith, a, b, unvisited-new G s v e vn f, length-append (tour v below) (u ∷ tour u rest))
 
 -- ---- where a node is met
 
@@ -128,13 +128,13 @@ module _ {G : Net} where
   pub met-new : {k u w : ℕ} {s : List Bool} {T : Tree} {path : List ℕ} → Follows G k u s T → Met w u T path → New s (visited T s) w
   unfolding marked
   met-new (pass k< o p) m = met-new p m
-  met-new {w} {s} {T = tree.branch _ _ below rest} (take v i k< t f v< p q) (now e) =
+  met-new {w} {s} {T = tree.branch _ _ below rest} (take v i k< t f vn v< p q) (now e) =
       let s₁ = set s v true in
       rw e (f, visited-extends rest (visited below s₁) .keeps v (visited-extends below s₁ .keeps v (getD-set-same s v true false v<)))
-  met-new {w} {s} {T = tree.branch _ _ below rest} (take v i k< t f v< p q) (deeper m) =
+  met-new {w} {s} {T = tree.branch _ _ below rest} (take v i k< t f vn v< p q) (deeper m) =
       let (g, b) = met-new p m in
       (unset (extends-set (extends-refl s) v) w g, visited-extends rest (visited below (set s v true)) .keeps w b)
-  met-new {w} {s} {T = tree.branch _ _ below rest} (take v i k< t f v< p q) (later m) =
+  met-new {w} {s} {T = tree.branch _ _ below rest} (take v i k< t f vn v< p q) (later m) =
       let (g, b) = met-new q m in
       (unset (extends-trans (extends-set (extends-refl s) v) (visited-extends below (set s v true))) w g, b)
 
@@ -152,12 +152,12 @@ module _ {G : Net} where
   pub met-once : {k u w : ℕ} {s : List Bool} {T : Tree} {path other : List ℕ} → Follows G k u s T → Met w u T path → Met w u T other → other ≡ path
   unfolding marked
   met-once (pass k< o p) m n = met-once p m n
-  met-once (take v i k< t f v< p q) (now e) (now d) = refl
-  met-once {u} (take v i k< t f v< p q) (deeper m) (deeper n) = ap (λ (l : List ℕ). u ∷ l) (met-once p m n)
-  met-once (take v i k< t f v< p q) (later m) (later n) = met-once q m n
-  met-once {s} (take v i k< t f v< p q) (now e) (deeper n) = own-below s v< p e n
-  met-once {s} (take v i k< t f v< p q) (deeper m) (now e) = own-below s v< p e m
-  met-once {s} {T = tree.branch _ _ below rest} (take v i k< t f v< p q) (now e) (later n) = own-later s below v< q e n
-  met-once {s} {T = tree.branch _ _ below rest} (take v i k< t f v< p q) (later m) (now e) = own-later s below v< q e m
-  met-once (take v i k< t f v< p q) (deeper m) (later n) = below-later p q m n
-  met-once (take v i k< t f v< p q) (later m) (deeper n) = below-later p q n m
+  met-once (take v i k< t f vn v< p q) (now e) (now d) = refl
+  met-once {u} (take v i k< t f vn v< p q) (deeper m) (deeper n) = ap (λ (l : List ℕ). u ∷ l) (met-once p m n)
+  met-once (take v i k< t f vn v< p q) (later m) (later n) = met-once q m n
+  met-once {s} (take v i k< t f vn v< p q) (now e) (deeper n) = own-below s v< p e n
+  met-once {s} (take v i k< t f vn v< p q) (deeper m) (now e) = own-below s v< p e m
+  met-once {s} {T = tree.branch _ _ below rest} (take v i k< t f vn v< p q) (now e) (later n) = own-later s below v< q e n
+  met-once {s} {T = tree.branch _ _ below rest} (take v i k< t f vn v< p q) (later m) (now e) = own-later s below v< q e m
+  met-once (take v i k< t f vn v< p q) (deeper m) (later n) = below-later p q m n
+  met-once (take v i k< t f vn v< p q) (later m) (deeper n) = below-later p q n m

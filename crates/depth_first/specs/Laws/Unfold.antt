@@ -6,18 +6,18 @@ use mathlib.Core.Bool.{Bool, true, false, not, cond}
 use mathlib.Core.List.{List}
 use native.Mathlib.Nat.{suc-mul, mul-le-mul-right}
 use native.Mathlib.Omega.{arith}
-use lib.ListN.{length, set, replicate, length-set}
+use lib.ListN.{length, set, length-set}
 use lib.Seq.{getD-set-same, getD-set-other}
 use lib.Dec.{eqb, ltb}
 use borrow.Author.Tests.{lt-ltb, le-ltb, ltb-true}
-use Rattle.scan.specs.Entry.{has, replicate-at}
+use Rattle.scan.specs.Entry.{has}
 use Rattle.scan.specs.Test.{branch, known, clash, Says, not-says, and-says}
 use Rattle.scan.specs.Flags.{Extends, extends-refl, extends-trans, extends-set}
 use Rattle.scan.specs.Total.{bit, count, total-same, total-const, total-but, count-mono}
 use Rattle.graph.specs.Net.{Net, Fits}
 use Rattle.depth_first.specs.Tree as tree
 use Rattle.depth_first.specs.Tree.{Tree, leaf, marked, visited, labelled}
-use Rattle.depth_first.specs.Search.{touches, far, opens, unvisited, visiting, following, visitBy, followBy, visit, follow}
+use Rattle.depth_first.specs.Search.{touches, far, opens, unvisited, visiting, following, visitBy, followBy, visit, follow, Searches}
 
 -- ---- flags
 
@@ -36,8 +36,12 @@ visited-extends = marked-extends (λ i v. v)
 pub labelled-extends : (T : Tree) (l : List Bool) → Extends l (labelled T l)
 labelled-extends = marked-extends (λ i v. i)
 
-pub length-visited : (T : Tree) (s : List Bool) → length (visited T s) ≡ length s
-length-visited T s = visited-extends T s .sized
+-- a list that has a flag for each of n nodes still has
+pub wide-set : {n : ℕ} (s : List Bool) (v : ℕ) → n ≤ length s → n ≤ length (set s v true)
+wide-set s v w = omega (arith, length-set s v true)
+
+pub wide-visited : {n : ℕ} (T : Tree) (s : List Bool) → n ≤ length s → n ≤ length (visited T s)
+wide-visited T s w = omega (arith, visited-extends T s .sized)
 
 module _ (G : Net) where
   open Net G using (nodes, links, low, high)
@@ -53,7 +57,7 @@ module _ (G : Net) where
       still v f (inr t) = t
 
   -- one node fewer is left once a new node is visited
-  pub unvisited-new : (s : List Bool) (v : ℕ) → length s ≡ nodes → v < nodes → has s v ≡ false → unvisited G s ≡ suc (unvisited G (set s v true))
+  pub unvisited-new : (s : List Bool) (v : ℕ) → nodes ≤ length s → v < nodes → has s v ≡ false → unvisited G s ≡ suc (unvisited G (set s v true))
   unfolding unvisited count
   unvisited-new s v n h f =
       let one : bit (not (has s v)) ≡ 1 = ap (λ (t : Bool). bit (not t)) f in
@@ -65,16 +69,16 @@ module _ (G : Net) where
       )
 
   -- before the search all nodes are left
-  pub unvisited-all : unvisited G (replicate nodes false) ≡ nodes
+  pub unvisited-all : (s : List Bool) → ((v : ℕ) → has s v ≡ false) → unvisited G s ≡ nodes
   unfolding unvisited count
-  unvisited-all =
-      total-same (λ i. bit (not (has (replicate nodes false) i))) (λ i. 1) nodes (λ i l. ap (λ (t : Bool). bit (not t)) (replicate-at nodes false i))
+  unvisited-all s none =
+      total-same (λ i. bit (not (has s i))) (λ i. 1) nodes (λ i l. ap (λ (t : Bool). bit (not t)) (none i))
       ∙ total-const 1 nodes
       ∙ omega arith
 
   -- ---- the falling number
 
-  pub visiting-new : (s : List Bool) (v : ℕ) → length s ≡ nodes → v < nodes → has s v ≡ false → visiting G s ≡ visiting G (set s v true) + (links + 1)
+  pub visiting-new : (s : List Bool) (v : ℕ) → nodes ≤ length s → v < nodes → has s v ≡ false → visiting G s ≡ visiting G (set s v true) + (links + 1)
   unfolding visiting
   visiting-new s v n h f = ap (λ (x : ℕ). x * (links + 1)) (unvisited-new s v n h f) ∙ suc-mul (unvisited G (set s v true)) (links + 1)
 
@@ -98,9 +102,9 @@ module _ (G : Net) where
     -- ---- the bound does not matter
 
     record Bounds (n m : ℕ) : Type 0 where
-      same-visit : (u : ℕ) (s : List Bool) → length s ≡ nodes → u < nodes → has s u ≡ false → visiting G s ≤ n → visiting G s ≤ m
+      same-visit : (u : ℕ) (s : List Bool) → nodes ≤ length s → u < nodes → has s u ≡ false → visiting G s ≤ n → visiting G s ≤ m
           → visitBy G n u s ≡ visitBy G m u s
-      same-follow : (k u : ℕ) (s : List Bool) → length s ≡ nodes → following G s k ≤ n → following G s k ≤ m → followBy G n k u s ≡ followBy G m k u s
+      same-follow : (k u : ℕ) (s : List Bool) → nodes ≤ length s → following G s k ≤ n → following G s k ≤ m → followBy G n k u s ≡ followBy G m k u s
 
     past-links : (n k u : ℕ) (s : List Bool) → links ≤ k → followBy G n k u s ≡ leaf
     unfolding followBy
@@ -126,11 +130,11 @@ module _ (G : Net) where
         step S = record {
           same-visit = λ u s e h f a b.
               let w = visiting-new s u e h f in
-              S .same-follow 0 u (set s u true) (length-set s u true ∙ e) (omega arith) (omega arith);
+              S .same-follow 0 u (set s u true) (wide-set s u e) (omega arith) (omega arith);
           same-follow = λ k u s e a b. go k u s e a b (ltb k links) refl (opens G s u k) refl;
         }
           where
-            go : (k u : ℕ) (s : List Bool) → length s ≡ nodes → visiting G s + (links - k) ≤ suc n → visiting G s + (links - k) ≤ suc m
+            go : (k u : ℕ) (s : List Bool) → nodes ≤ length s → visiting G s + (links - k) ≤ suc n → visiting G s + (links - k) ≤ suc m
                 → (t : Bool) → ltb k links ≡ t → (o : Bool) → opens G s u k ≡ o
                 → cond t (cond o (tree.branch k (far G u k) (visitBy G n (far G u k) s) (followBy G n (k + 1) u (visited (visitBy G n (far G u k) s) (set s (far G u k) true)))) (followBy G n (k + 1) u s)) leaf
                 ≡ cond t (cond o (tree.branch k (far G u k) (visitBy G m (far G u k) s) (followBy G m (k + 1) u (visited (visitBy G m (far G u k) s) (set s (far G u k) true)))) (followBy G m (k + 1) u s)) leaf
@@ -144,7 +148,7 @@ module _ (G : Net) where
                 let d = visiting-le B marked in
                 let below = S .same-visit (far G u k) s e v< f (omega arith) (omega arith) in
                 branches k (far G u k) below
-                (S .same-follow (k + 1) u (visited B marked) (length-visited B marked ∙ length-set s (far G u k) true ∙ e) (omega arith) (omega arith)
+                (S .same-follow (k + 1) u (visited B marked) (wide-visited B marked (wide-set s (far G u k) e)) (omega arith) (omega arith)
                 ∙ ap (λ (T : Tree). followBy G m (k + 1) u (visited T marked)) below)
             go k u s e a b true l false o =
                 let k< = ltb-true k links l in
@@ -153,13 +157,18 @@ module _ (G : Net) where
 
     -- ---- the equations
 
-    module _ (u : ℕ) (s : List Bool) (sized : length s ≡ nodes) where
+    module _ (u : ℕ) (s : List Bool) (sized : nodes ≤ length s) where
       -- a visit of a new node marks it and tries all its links
       pub visit-is : u < nodes → has s u ≡ false → visit G u s ≡ follow G 0 u (set s u true)
       unfolding visit follow visitBy following
       visit-is h f =
           let w : visiting G s ≡ suc (visiting G (set s u true) + links) = omega (arith, visiting-new s u sized h f) in
-          rw w (same (visiting G (set s u true) + links) (visiting G (set s u true) + (links - 0)) .same-follow 0 u (set s u true) (length-set s u true ∙ sized) (omega arith) (omega arith))
+          rw w (same (visiting G (set s u true) + links) (visiting G (set s u true) + (links - 0)) .same-follow 0 u (set s u true) (wide-set s u sized) (omega arith) (omega arith))
+
+      -- any higher bound gives the same
+      pub visit-by : (n : ℕ) → u < nodes → has s u ≡ false → visiting G s ≤ n → visit G u s ≡ visitBy G n u s
+      unfolding visit
+      visit-by n h f l = same (visiting G s) n .same-visit u s sized h f (omega arith) l
 
       -- past the last link
       pub follow-end : (k : ℕ) → links ≤ k → follow G k u s ≡ leaf
@@ -189,5 +198,14 @@ module _ (G : Net) where
           let d′ = visiting-new s (far G u k) sized v< f in
           rw w (rw (lt-ltb k links h, o)
           (branches k (far G u k) below
-          (same N (following G (visited B marked) (k + 1)) .same-follow (k + 1) u (visited B marked) (length-visited B marked ∙ length-set s (far G u k) true ∙ sized) (omega arith) (omega arith)
+          (same N (following G (visited B marked) (k + 1)) .same-follow (k + 1) u (visited B marked) (wide-visited B marked (wide-set s (far G u k) sized)) (omega arith) (omega arith)
           ∙ ap (λ (T : Tree). followBy G (following G (visited T marked) (k + 1)) (k + 1) u (visited T marked)) below)))
+
+-- together
+pub searches : (G : Net) → Fits G → Searches G
+searches G F = record {
+  visits = λ u s w. visit-is G F u s w;
+  ends = λ k u s w. follow-end G F u s w k;
+  passes = λ k u s w. follow-pass G F u s w k;
+  follows = λ k u s w. follow-take G F u s w k;
+}

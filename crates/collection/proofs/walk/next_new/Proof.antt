@@ -1,9 +1,7 @@
 -- `walk::next_new` meets its contract. The loop keeps that the arcs before a lead to no new node.
-use Prim.Native.Nat.{ℕ, _-_, _/_}
-use mathlib.Core.Path.{_≡_, _∙_}
+use Prim.Native.Nat.{_-_, _/_}
 use native.Mathlib.Omega.{arith}
 use denote.Ref.{now}
-use lib.ListN.{length}
 use borrow.Author.Needs.{needs}
 use borrow.Author.Tests.{not-true, not-false}
 use Rattle.collection.specs.Arcs.{netOfArcs}
@@ -13,43 +11,38 @@ use Rattle.collection.proofs.walk.next_new.Statement.{statement}
 use Rattle.collection.proofs.walk.next_new.Tie as tie
 
 abbrev Inv-loop : tie.InvT-loop
-Inv-loop next to links arc seen a₀ a = Passed (netOfArcs (length seen) links to) seen arc a
+Inv-loop next to links arc seen a₀ a = Passed (netOfArcs 64 links to) seen arc a
 
 abbrev μ-loop : tie.MeasureT-loop
 μ-loop next to links arc seen a₀ a = links - a / 2
 
 loop-holds : tie.Need-loop-holds Inv-loop μ-loop
-loop-holds c =
-    let a = c .before .args in
-    passed-none (length (now (a .seen))) (a .links) (now (a .to)) (now (a .seen)) (a .arc)
+loop-holds c = let a = c .args in passed-none 64 (a .links) (now (a .to)) (now (a .seen)) (a .arc)
 
 element-copy-out-node : tie.Need-element-copy-out-node Inv-loop μ-loop
-element-copy-out-node c = omega (arith, c .before .before .before .pre .few)
+element-copy-out-node c = omega (arith, c .before .before .pre .few)
 
 node-requires : tie.Need-node-requires Inv-loop μ-loop
 node-requires c κs = search needs
 
-shared-slice-read-if1 : tie.Need-shared-slice-read-if1 Inv-loop μ-loop
-shared-slice-read-if1 c =
-    let n = c .before in
-    let turn = n .before .before in
-    let s = turn .before .before .before in
-    let a = s .args in
-    rw (n .node .ensures) (head-below (length (now (a .seen))) (a .links) (now (a .to)) (s .pre .fits) (turn .before .loop .a) (turn .loop-test .taken))
+element-copy-out-if1 : tie.Need-element-copy-out-if1 Inv-loop μ-loop
+element-copy-out-if1 c =
+    let turn = c .before .before in
+    let s = turn .before .before in
+    rw (c .node .ensures) (head-below 64 (s .args .links) (now (s .args .to)) (s .pre .fits) (turn .before .loop .a) (turn .loop-test .taken))
 
 returns : tie.Need-returns Inv-loop μ-loop
 returns c =
     let n = c .before .before in
     let turn = n .before .before in
-    let s = turn .before .before .before in
-    let a = s .args in
-    passed-hit (length (now (a .seen))) (a .links) (now (a .to)) (now (a .seen)) (turn .before .loop .inv) (turn .loop-test .taken) (not-true _ (rw (n .node .ensures) at (c .if1 .taken)))
+    let a = turn .before .before .args in
+    passed-hit 64 (a .links) (now (a .to)) (now (a .seen)) (turn .before .loop .inv) (turn .loop-test .taken) (not-true _ (rw (n .node .ensures) at (c .if1 .taken)))
 
 mul-arc-number : tie.Need-mul-arc-number Inv-loop μ-loop
-mul-arc-number c = omega (arith, c .before .before .before .before .before .before .before .pre .few)
+mul-arc-number c = omega (arith, c .before .before .before .before .before .before .pre .few)
 
 element-copy-out-arc-number : tie.Need-element-copy-out-arc-number Inv-loop μ-loop
-element-copy-out-arc-number c = omega (arith, c .before .before .before .before .before .before .before .pre .few)
+element-copy-out-arc-number c = omega (arith, c .before .before .before .before .before .before .pre .few)
 
 arc-number-requires : tie.Need-arc-number-requires Inv-loop μ-loop
 arc-number-requires c κs = search needs
@@ -57,23 +50,22 @@ arc-number-requires c κs = search needs
 loop-less : tie.Need-loop-less Inv-loop μ-loop
 loop-less c =
     let turn = c .before .before .before .before .before .before in
-    let s = turn .before .before .before in
-    let a = s .args in
-    omega (arith, c .arc-number .ensures, next-later (length (now (a .seen))) (a .links) (now (a .to)) (s .pre) (turn .before .loop .a) (turn .loop-test .taken))
+    let s = turn .before .before in
+    omega (arith, c .arc-number .ensures, next-later 64 (s .args .links) (now (s .args .to)) (s .pre) (turn .before .loop .a) (turn .loop-test .taken))
 
 loop-again : tie.Need-loop-again Inv-loop μ-loop
 loop-again c =
-    let n = c .before .before .before .before in
+    let e = c .before .before in
+    let n = e .before .before in
     let turn = n .before .before in
-    let s = turn .before .before .before in
+    let s = turn .before .before in
     let a = s .args in
     rw (c .arc-number .ensures)
-    (passed-more (length (now (a .seen))) (a .links) (now (a .to)) (now (a .seen)) (turn .before .loop .inv) (now (a .next)) (s .pre) (turn .loop-test .taken) (not-false _ (rw (n .node .ensures) at (c .before .before .if1 .left))))
+    (passed-more 64 (a .links) (now (a .to)) (now (a .seen)) (turn .before .loop .inv) (now (a .next)) (s .pre) (turn .loop-test .taken)
+    (not-false _ (rw (n .node .ensures) at (e .if1 .left))))
 
 returns-2 : tie.Need-returns-2 Inv-loop μ-loop
-returns-2 c =
-    let a = c .before .before .before .args in
-    passed-all (length (now (a .seen))) (a .links) (now (a .to)) (now (a .seen)) (c .before .loop .inv) (c .loop-test .left)
+returns-2 c = let a = c .before .before .args in passed-all 64 (a .links) (now (a .to)) (now (a .seen)) (c .before .loop .inv) (c .loop-test .left)
 
 pub next-new-spec : {M : Type 1} → statement M
 next-new-spec =
@@ -84,7 +76,7 @@ next-new-spec =
     loop-holds
     element-copy-out-node
     node-requires
-    shared-slice-read-if1
+    element-copy-out-if1
     returns
     mul-arc-number
     element-copy-out-arc-number
