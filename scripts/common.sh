@@ -78,3 +78,20 @@ explain() {
         ;;
     esac
 }
+
+# Explains the refusal that a program's lines end with and ends the script with status 1; where they end with none it does nothing.
+end_refused() {
+    local lines=$1 mesh=$2 number place
+    read -r number place <<<"$(sed -n 's/.* refused \([0-9]* [0-9]*\)$/\1/p' "$lines")"
+    [ -n "$number" ] || return 0
+    explain "$number" "$place" "$mesh"
+    exit 1
+}
+
+# Prints a drawing in DOT of a mesh: KIND is plan or collection, CUT a link or empty, and the lines of the programs are in files.
+drawing() {
+    local kind=$1 file=$2 cut=$3
+    shift 3
+    { grep '^# site ' "$file" || true; } | cat - "$@" |
+        awk -v name="$(basename "${file%.*}")" -v cut="$cut" -f "$root/scripts/draw.awk" -f "$root/scripts/draw.$kind.awk"
+}

@@ -1,4 +1,5 @@
 // The jobs.
+use crate::collections;
 use crate::sessions;
 use codec::Decoded;
 use codec::LONGEST_BOOK;
@@ -45,6 +46,7 @@ fn run_on(job: u8, repeats: u32, m: Mesh) {
         b'L' => sessions::deliver_job(m, repeats),
         b'U' => sessions::status_job(m, repeats),
         b'V' => sessions::rest_job(m, repeats),
+        b'B' => collections::collect_job(m, repeats),
         _ => {}
     }
 }

@@ -1,7 +1,8 @@
-// One case of the corpus: a book, a book to list, a mesh record, a mesh to plan, a script, an old session, or a duct query.
+// One case of the corpus: a book, a book to list, a mesh record, a mesh to plan, a script, an old session, a duct query, or a collection route.
 use crate::book::run_book;
 use crate::book::run_listed;
 use crate::calls::run_script;
+use crate::collecting::run_collection;
 use crate::old_session::run_upgrade;
 use crate::planning::run_planning;
 use crate::record::run_mesh;
@@ -20,6 +21,7 @@ pub(crate) fn run_case(case: u64) -> bool {
 fn run_kind(kind: u8, case: u64) -> bool {
     match kind {
         b'B' => run_book(case),
+        b'C' => run_collection(case),
         b'D' => run_sharing(case),
         b'L' => run_listed(case),
         b'M' => run_mesh(case),

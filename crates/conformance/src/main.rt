@@ -2,6 +2,7 @@
 mod book;
 mod calls;
 mod case;
+mod collecting;
 mod old_session;
 mod planning;
 mod record;

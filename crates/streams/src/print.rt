@@ -71,3 +71,18 @@ pub fn hex(text: &[u8], bytes: &[u8]) {
     }
     end();
 }
+
+fn byte_number(b: u8) {
+    number(b as u64);
+}
+
+// A line: a word and bytes, as numbers.
+pub fn numbers(text: &[u8], bytes: &[u8]) {
+    word(text);
+    let mut i: usize = 0;
+    while i < bytes.len() {
+        byte_number(bytes[i]);
+        i += 1;
+    }
+    end();
+}
