@@ -53,7 +53,7 @@ abbrev pub collectedAs : Answer → List Bool → ℕ → Collected
 collectedAs Accepted labels n = record { tree = labels; count = n; answer = Accepted }
 collectedAs (Refused number place) labels n = record { tree = noLabels; count = 0; answer = Refused number place }
 
--- the answer, with the labels and how many entries were written; on a refusal no link is labelled and none was
+-- the answer, with the labels and how many entries were written; on a refusal no link is labelled, and no entry was written
 unfoldable pub collected : Mesh → ℕ → ℕ → Collected
 collected m root room = collectedAs (collectAnswer m root room) (labelsOf m root) (length (routeOf m root))
 

@@ -40,7 +40,7 @@ pub record CanFollow (G : Net) (next : List ℕ) (u arc place : ℕ) (seen : Lis
 pub record Passed (G : Net) (seen : List Bool) (arc r : ℕ) : Type 0 where
   pub from : arc / 2 ≤ r / 2
   pub leaves : (u : ℕ) → Leaves G u arc → Leaves G u r
-  pub visited : (u : ℕ) → Leaves G u arc → (j : ℕ) → arc / 2 ≤ j → j < r / 2 → j < G .links → opens G seen u j ≡ false
+  pub no-new : (u : ℕ) → Leaves G u arc → (j : ℕ) → arc / 2 ≤ j → j < r / 2 → j < G .links → opens G seen u j ≡ false
 
 -- and r does, or is the chain's end
 pub record Next (G : Net) (seen : List Bool) (arc r : ℕ) : Type 0 where

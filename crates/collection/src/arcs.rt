@@ -23,7 +23,7 @@ fn chain(next: &mut [u16; 576], to: &mut [u8; 512], a: usize, from: u8, far: u8)
     next[head] = a as u16;
 }
 
-// Chains all arcs of the mesh, from the last link on, in a table without arcs.
+// Chains all arcs of the mesh, from the last link down, in a table without arcs.
 pub(crate) fn chain_all(m: Mesh, next: &mut [u16; 576], to: &mut [u8; 512])
     requires { ⌜ meshAnswer m ≡ Accepted ⌝ }
     requires { ⌜ (now next ≡ replicate 576 512) × (now to ≡ replicate 512 0) ⌝ }

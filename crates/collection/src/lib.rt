@@ -13,7 +13,8 @@ mod walk;
 use mesh::Answer;
 use mesh::Mesh;
 
-// What the call gives: whether each link is one of the tree, not past the last link, and how many entries were written; on a refusal no link, and none.
+// What the call gives: whether each link is one of the tree, which none past the last link is, and how many entries were written; on a refusal no link is, and no
+// entry was written.
 pub struct Collected {
     pub tree: [bool; 256],
     pub count: usize,

@@ -1,11 +1,12 @@
 -- The links that the walk along a tree follows: its crossings, what it is to go along them, and how often a link is crossed. A row of nodes does not tell which
 -- of two links between the same nodes is crossed; the crossings do. Definitions only.
-use Prim.Native.Nat.{ℕ, _+_, _<_}
+use Prim.Native.Nat.{ℕ, suc, _+_, _<_}
 use mathlib.Core.Path.{_≡_}
-use mathlib.Core.Bool.{Bool, true, not, _&&_, xor}
+use mathlib.Core.Bool.{Bool, true, false, not, _&&_, xor}
 use mathlib.Core.List.{List, [], _∷_, _++_}
 use lib.Dec.{eqb}
-use Rattle.scan.specs.Entry.{has}
+use lib.ListN.{length, getD}
+use Rattle.scan.specs.Entry.{at, has}
 use Rattle.scan.specs.Total.{bit}
 use Rattle.graph.specs.Net.{Net, end}
 use Rattle.depth_first.specs.Tree.{Tree, leaf, branch}
@@ -14,6 +15,10 @@ use Rattle.depth_first.specs.Tree.{Tree, leaf, branch}
 pub record Crossing : Type 0 where
   pub link : ℕ
   pub way : Bool
+
+-- crossing j of a list
+abbrev pub crossing : List Crossing → ℕ → Crossing
+crossing cs j = getD cs j (record { link = 0; way = false })
 
 module _ (G : Net) where
   -- link i crossed from its end u, and back to it
@@ -36,9 +41,9 @@ module _ (G : Net) where
     pub ends : b ≡ end G (c .link) (not (c .way))
 
   -- the route goes along the crossings: one leads from each entry to the next
-  pub data Goes (labels : List Bool) : List ℕ → List Crossing → Type 0 where
-    stays : {a : ℕ} → Goes labels (a ∷ []) []
-    goes : {a b : ℕ} {c : Crossing} {route : List ℕ} {cs : List Crossing} → Crosses labels c a b → Goes labels (b ∷ route) cs → Goes labels (a ∷ (b ∷ route)) (c ∷ cs)
+  pub record Goes (labels : List Bool) (route : List ℕ) (cs : List Crossing) : Type 0 where
+    pub entries : length route ≡ suc (length cs)
+    pub each : (j : ℕ) → j < length cs → Crosses labels (crossing cs j) (at route j) (at route (suc j))
 
 -- how often link i is crossed in the way d
 unfoldable pub times : ℕ → Bool → List Crossing → ℕ

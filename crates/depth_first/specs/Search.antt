@@ -17,7 +17,7 @@ module _ (G : Net) where
   abbrev pub touches : ℕ → ℕ → Bool
   touches u i = eqb (low i) u || eqb (high i) u
 
-  -- the end of link i that is not its end u
+  -- the other end of link i, which is at u
   abbrev pub far : ℕ → ℕ → ℕ
   far u i = cond (eqb (low i) u) (high i) (low i)
 
@@ -29,7 +29,7 @@ module _ (G : Net) where
   unfoldable pub unvisited : List Bool → ℕ
   unvisited seen = count (λ v. not (has seen v)) nodes
 
-  -- the falling number of a visit, of unvisited nodes, and that of following the links from k on, of untried links besides
+  -- the falling number of a visit counts unvisited nodes; that of following links from k on counts untried links besides
   unfoldable pub visiting : List Bool → ℕ
   visiting seen = unvisited seen * (links + 1)
 

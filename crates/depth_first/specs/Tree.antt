@@ -4,8 +4,8 @@ use mathlib.Core.Bool.{Bool, true}
 use mathlib.Core.List.{List, [], _∷_, _++_}
 use lib.ListN.{set}
 
--- the tree below a node: none of its links is followed; or the first that is followed is `link`, to the new node `node`, `below` is the tree below that, and `rest`
--- is what the later links give
+-- the tree below a node. A leaf: none of its links is followed. A branch: the first that is followed is `link`, to the new node `node`, `below` is the tree below that
+-- node, and `rest` is what the later links give
 pub data Tree : Type 0 where
   leaf : Tree
   branch : (link node : ℕ) (below rest : Tree) → Tree
@@ -15,7 +15,7 @@ unfoldable pub tour : ℕ → Tree → List ℕ
 tour u leaf = []
 tour u (branch i v below rest) = v ∷ (tour v below ++ (u ∷ tour u rest))
 
--- flags after the walk: one is set for each branch
+-- flags after the walk, of which each branch sets one: `pick` says which by its link and its node
 unfoldable pub marked : (ℕ → ℕ → ℕ) → Tree → List Bool → List Bool
 marked pick leaf flags = flags
 marked pick (branch i v below rest) flags = marked pick rest (marked pick below (set flags (pick i v) true))

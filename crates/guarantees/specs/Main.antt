@@ -1,17 +1,19 @@
 -- The theorem page: what is claimed of the library, each theorem stated in full over the definitions that the contracts cite, and proved
 -- by citing one lemma. README.md leads from each demand to its theorem here.
-use Prim.Native.Nat.{ℕ, _*_, _≤_, _<_}
+use Prim.Native.Nat.{ℕ, _-_, _*_, _≤_, _<_}
 use mathlib.Core.Path.{_≡_, refl}
-use mathlib.Core.Bool.{true}
-use mathlib.Core.Logic.{_⊎_, _↔_}
+use mathlib.Core.Bool.{Bool, true, false}
+use mathlib.Core.Logic.{_⊎_, _↔_, _≢_}
 use mathlib.Core.List.{List, [], _∷_, _++_, map, List·Memᴰ}
 use native.Mathlib.Omega.{arith}
 use lib.ListN.{length, take, drop}
+use Rattle.scan.specs.Entry.{at, has}
+use Rattle.scan.specs.Total.{bit, count}
 use Rattle.scan.specs.Bytes.{AreBytes}
 use Rattle.mesh.specs.declared.Mesh.{Mesh}
 use Rattle.mesh.specs.declared.Answer.the-variants.{Accepted, Refused}
 use Rattle.mesh.specs.Mesh.{meshAnswer}
-use Rattle.mesh.specs.WellFormed.{WellFormed, InRange, duct, SameEnds}
+use Rattle.mesh.specs.WellFormed.{WellFormed, InRange, link, duct, SameEnds}
 use Rattle.mesh.specs.Refusal.{Refusal, previous}
 use Rattle.mesh.specs.Laws.Checked.{checks}
 use Rattle.mesh.specs.Laws.Refused.{refused-only}
@@ -23,9 +25,10 @@ use Rattle.codec.specs.Laws.Read.{decoded-accepted, decoded-in-range, output-de
 use Rattle.codec.specs.Laws.Encoding.{encoded-done, encoded-short, encoded-refused}
 use Rattle.codec.specs.Laws.Prefix.{decoded-take}
 use Rattle.codec.specs.Laws.Shown.{record-shown}
-use Rattle.graph.specs.Net.{Net, Fits, Parted, bothWays, without, First}
+use Rattle.graph.specs.Net.{Strong, Parted, bothWays, without, First}
 use Rattle.graph.specs.Laws.First.{first-unique}
 use Rattle.nets.specs.Nets.{netOf, NoPath}
+use Rattle.nets.specs.Laws.Fits.{fits}
 use Rattle.planner.specs.Plan.{planned}
 use Rattle.planner.specs.Meaning.{LinkParts, FirstPlan}
 use Rattle.planner.specs.Laws.Meaning.{plan-refuses, plan-first, plan-numbers}
@@ -80,10 +83,12 @@ use Rattle.carried.specs.Laws.Replayed.{replayed-same}
 use Rattle.carried.specs.Laws.Computed as carriedComputed
 use Rattle.guarantees.specs.Bench.{Row, table, Holds}
 use Rattle.depth_first.specs.Search.{Searches}
+use Rattle.depth_first.specs.Crossings.{crossings, Goes, times}
+use Rattle.depth_first.specs.Folded.{MetBy, Ancestor}
 use Rattle.depth_first.specs.Laws.Unfold.{searches}
-use Rattle.collection.specs.Collection.{noLabels, routeOf, labelsOf, needed, collected}
+use Rattle.collection.specs.Collection.{noLabels, treeOf, routeOf, labelsOf, needed, collected}
 use Rattle.collection.specs.Collection as collection
-use Rattle.collection.specs.Meaning.{Connected, Collects}
+use Rattle.collection.specs.Meaning.{Connected}
 use Rattle.collection.specs.Meaning as collectionQuery
 use Rattle.collection.specs.Laws.Folded.{collects}
 use Rattle.collection.specs.Laws.Query as asking
@@ -368,14 +373,40 @@ ducts-bench = ductsComputed.computed
 -- ---- 02, request 5: the collection route (contract: crates/collection/src/lib.rt, `collect`)
 
 -- the search is the one that 02 describes: the equations of visiting a node and of following its links, without the number that bounds their definition
-pub collection-searches : (G : Net) → Fits G → Searches G
-collection-searches = searches
+pub collection-searches : (m : Mesh) → meshAnswer m ≡ Accepted → Searches (netOf m)
+collection-searches m ok = searches (netOf m) (fits m ok)
 
--- from every root of every mesh that passes the checks and is connected: 2 × N - 1 entries, the root first and last; each entry and the next are the ends of a tree
--- link; the walk crosses each tree link once each way and no other link; the tree links are N - 1 and join all nodes; every remaining link joins a node to one of its
--- ancestors, the nodes on the path from the root when it is met. Crossings are of links, so that two links between the same nodes would not be taken for one
-pub collection-folded : (m : Mesh) → meshAnswer m ≡ Accepted → (root : ℕ) → root < m .nodes → InRange m → Connected m → Collects m root
-collection-folded = collects
+-- from every root of every mesh that passes the checks and is connected:
+module _ (m : Mesh) (ok : meshAnswer m ≡ Accepted) (root : ℕ) (inside : root < m .nodes) (r : InRange m) (c : Connected m) where
+  -- 2 × N - 1 entries, the root first and last
+  pub collection-entries :
+      (length (routeOf m root) ≡ 2 * m .nodes - 1) × (at (routeOf m root) 0 ≡ root) × (at (routeOf m root) (2 * m .nodes - 2) ≡ root)
+  collection-entries = let f = collects m ok root inside r c in (f .entries, f .first, f .last)
+
+  -- each entry and the next are the ends of a tree link, which the walk crosses from the one to the other. Crossings are of links, so that two links between the same
+  -- nodes would not be taken for one
+  pub collection-along : Goes (netOf m) (labelsOf m root) (routeOf m root) (crossings (netOf m) root (treeOf m root))
+  collection-along = collects m ok root inside r c .along
+
+  -- each tree link is crossed once each way, and no other link
+  pub collection-crossed : (i : ℕ) (d : Bool) → times i d (crossings (netOf m) root (treeOf m root)) ≡ bit (has (labelsOf m root) i)
+  collection-crossed = collects m ok root inside r c .once
+
+  -- the tree links are N - 1 and join all nodes, and past the last link the labels say not
+  pub collection-tree :
+      (count (has (labelsOf m root)) (m .count) ≡ m .nodes - 1)
+      × Strong (netOf m) (λ i d. has (labelsOf m root) i)
+      × ((i : ℕ) → m .count ≤ i → has (labelsOf m root) i ≡ false)
+  collection-tree = let f = collects m ok root inside r c in (f .number, f .joined, f .past)
+
+  -- every node but the root is met, and by one path, which leads from the root along tree links; its nodes are the ancestors of that node
+  pub collection-met : (w : ℕ) → w < m .nodes → w ≢ root → MetBy (netOf m) (labelsOf m root) root (treeOf m root) w
+  collection-met = collects m ok root inside r c .met
+
+  -- every link, so every one that is not of the tree, joins a node to one of its ancestors
+  pub collection-ancestors : (i : ℕ) → i < m .count
+      → Ancestor (link m i .low) (link m i .high) root (treeOf m root) ⊎ Ancestor (link m i .high) (link m i .low) root (treeOf m root)
+  collection-ancestors = collects m ok root inside r c .ancestors
 
 -- the call accepts exactly a mesh that passes the checks and is connected, a root that is a node, and an output with an entry for each of the route
 pub collection-accepts : (m : Mesh) (root room : ℕ)
@@ -399,7 +430,7 @@ pub collection-refused : (m : Mesh) (root : ℕ) (out : List ℕ) (number place 
     → (collected m root (length out) .tree ≡ noLabels) × (collected m root (length out) .count ≡ 0) × (collection.outputAfter m root out ≡ out)
 collection-refused = asking.refusal-told
 
--- document 000's route, the same mesh from another root, and each refusal
+-- document 000's route, with the path to one of its nodes, the same mesh from another root, two nodes with a link, and each refusal
 pub collection-bench : collectionRows.Holds
 collection-bench = collectionComputed.computed
 

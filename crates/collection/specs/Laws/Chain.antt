@@ -70,7 +70,7 @@ module _ (nodes links : ℕ) (to : List ℕ) where
 
   module _ (seen : List Bool) where
     pub passed-none : (arc : ℕ) → Passed G seen arc arc
-    passed-none arc = record { from = omega arith; leaves = λ u l. l; visited = λ u l j a b. absurd (omega arith) }
+    passed-none arc = record { from = omega arith; leaves = λ u l. l; no-new = λ u l j a b. absurd (omega arith) }
 
     -- the links of u that are passed over, before a, at a and between a and the next arc
     over : (u k a b : ℕ) → Heads G u (a / 2 + 1) b → ((j : ℕ) → k ≤ j → j < a / 2 → j < links → opens G seen u j ≡ false) → opens G seen u (a / 2) ≡ false
@@ -88,7 +88,7 @@ module _ (nodes links : ℕ) (to : List ℕ) where
       passed-more next C h t = record {
         from = omega (arith, P .from, next-later C a h);
         leaves = λ u l. heads-after C (P .leaves u l) h .leaves;
-        visited = λ u l. over u (arc / 2) a (at next a) (heads-after C (P .leaves u l) h) (P .visited u l) (leaves-opens seen (P .leaves u l) h ∙ ap not t);
+        no-new = λ u l. over u (arc / 2) a (at next a) (heads-after C (P .leaves u l) h) (P .no-new u l) (leaves-opens seen (P .leaves u l) h ∙ ap not t);
       }
 
       pub passed-hit : a / 2 < links → has seen (at to a) ≡ false → Next G seen arc a

@@ -29,17 +29,17 @@ use Rattle.collection.specs.Laws.Folded.{collects, connected-all}
 -- ---- the answer
 
 -- the mesh passes its checks and is connected, the root is one of its nodes, and the route fits
-abbrev pub Passed : Mesh → ℕ → ℕ → Type 0
-Passed m root room = (meshAnswer m ≡ Accepted) × (root < m .nodes) × Connected m × (needed m ≤ room)
+abbrev pub Acceptable : Mesh → ℕ → ℕ → Type 0
+Acceptable m root room = (meshAnswer m ≡ Accepted) × (root < m .nodes) × Connected m × (needed m ≤ room)
 
-told : (m : Mesh) (root room : ℕ) → Tells (Passed m root room) (Refusal m root room) (collectAnswer m root room)
+told : (m : Mesh) (root room : ℕ) → Tells (Acceptable m root room) (Refusal m root room) (collectAnswer m root room)
 unfolding collectAnswer
 told m root room =
     tells-andThen (tells-itself (meshAnswer m))
-    (λ e. branch (Tells (Passed m root room) (Refusal m root room)) (ltb root (m .nodes))
-    (λ b. branch (Tells (Passed m root room) (Refusal m root room)) (not (any (unreached (netOf m)) (m .nodes)))
+    (λ e. branch (Tells (Acceptable m root room) (Refusal m root room)) (ltb root (m .nodes))
+    (λ b. branch (Tells (Acceptable m root room) (Refusal m root room)) (not (any (unreached (netOf m)) (m .nodes)))
     (λ c. let strong = all-reached (fits m e) (not-true _ c) in
-    branch (Tells (Passed m root room) (Refusal m root room)) (leb (needed m) room)
+    branch (Tells (Acceptable m root room) (Refusal m root room)) (leb (needed m) room)
     (λ d. accepting (e, ltb-true _ _ b, strong, leb-true _ _ d))
     (λ d. refusing (output-short e (ltb-true _ _ b) strong (leb-false _ _ d))))
     (λ c. refusing (no-path e (ltb-true _ _ b) (any-unreached (fits m e) (not-false _ c)))))
@@ -57,7 +57,7 @@ answered m root room = go (collectAnswer m root room)
 -- each refusal on its own condition
 refused-only : (m : Mesh) (root room number place : ℕ) → collected m root room .answer ≡ Refused number place → Refusal m root room number place
 refused-only m root room number place e =
-    told-refused (subst (Tells (Passed m root room) (Refusal m root room)) (sym (answered m root room) ∙ e) (told m root room))
+    told-refused (subst (Tells (Acceptable m root room) (Refusal m root room)) (sym (answered m root room) ∙ e) (told m root room))
 
 refused-so : (m : Mesh) (root room number place : ℕ) → Refusal m root room number place → collected m root room .answer ≡ Refused number place
 unfolding collectAnswer
@@ -72,14 +72,14 @@ pub refuses-exactly : (m : Mesh) (root room number place : ℕ) → (collected m
 refuses-exactly m root room number place = (refused-only m root room number place, refused-so m root room number place)
 
 -- acceptance exactly where none of the conditions holds
-accepted-only : (m : Mesh) (root room : ℕ) → collected m root room .answer ≡ Accepted → Passed m root room
-accepted-only m root room e = told-accepted (subst (Tells (Passed m root room) (Refusal m root room)) (sym (answered m root room) ∙ e) (told m root room))
+accepted-only : (m : Mesh) (root room : ℕ) → collected m root room .answer ≡ Accepted → Acceptable m root room
+accepted-only m root room e = told-accepted (subst (Tells (Acceptable m root room) (Refusal m root room)) (sym (answered m root room) ∙ e) (told m root room))
 
-accepts : (m : Mesh) (root room : ℕ) → Passed m root room → collected m root room .answer ≡ Accepted
+accepts : (m : Mesh) (root room : ℕ) → Acceptable m root room → collected m root room .answer ≡ Accepted
 unfolding collectAnswer
 accepts m root room (e, l, c, s) = answered m root room ∙ rw (e, lt-ltb root (m .nodes) l, connected-all m e c, le-leb (needed m) room s)
 
-pub accepts-exactly : (m : Mesh) (root room : ℕ) → (collected m root room .answer ≡ Accepted) ↔ Passed m root room
+pub accepts-exactly : (m : Mesh) (root room : ℕ) → (collected m root room .answer ≡ Accepted) ↔ Acceptable m root room
 accepts-exactly m root room = (accepted-only m root room, accepts m root room)
 
 -- ---- the labels and the output

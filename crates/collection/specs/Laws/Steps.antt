@@ -111,7 +111,7 @@ module _ (next to : List ℕ) (links : ℕ) where
     all-flags = omega (arith, C .flags)
 
     to-next : follow G (arc / 2) u seen ≡ follow G (a / 2) u seen
-    to-next = skip G F u seen all-flags (a / 2 - arc / 2) (arc / 2) (a / 2) (let f = N .passed .from in omega arith) (N .passed .visited u (C .leaves))
+    to-next = skip G F u seen all-flags (a / 2 - arc / 2) (arc / 2) (a / 2) (let f = N .passed .from in omega arith) (N .passed .no-new u (C .leaves))
 
     -- there is none
     pub follow-done : {labels : List Bool} → links ≤ a / 2 → Followed G u arc place seen labels route place seen labels route

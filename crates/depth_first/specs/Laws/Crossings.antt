@@ -1,7 +1,7 @@
 -- The walk goes along its crossings, which are of links that it labels; it crosses each of these once each way and no other link; and it has two entries for each.
 -- Assumes nothing.
-use Prim.Native.Nat.{ℕ, _+_, _*_, _≤_, _<_}
-use mathlib.Core.Path.{_≡_, refl, sym, _∙_}
+use Prim.Native.Nat.{ℕ, zero, suc, _+_, _*_, _≤_, _<_}
+use mathlib.Core.Path.{_≡_, refl, sym, ap, _∙_}
 use mathlib.Core.Logic.{_⊎_, inl, inr, ⊎-elim}
 use mathlib.Core.Bool.{Bool, true, false, cond, not, _&&_, _||_, xor, Bool·not-not}
 use mathlib.Core.List.{List, [], _∷_, _++_}
@@ -19,7 +19,8 @@ use Rattle.graph.specs.Net.{Net, end}
 use Rattle.depth_first.specs.Tree as tree
 use Rattle.depth_first.specs.Tree.{Tree, marked, visited, labelled, tour}
 use Rattle.depth_first.specs.Search.{touches, far}
-use Rattle.depth_first.specs.Crossings.{Crossing, out, back, crossings, Crosses, Goes, stays, goes, times}
+use Rattle.depth_first.specs.Crossings.{Crossing, out, back, crossings, crossing, Crosses, Goes, times}
+use Rattle.depth_first.specs.Folded.{Met, now, deeper, later}
 use Rattle.depth_first.specs.Laws.Unfold.{visited-extends, labelled-extends}
 use Rattle.depth_first.specs.Laws.Follows.{Follows, done, pass, take}
 
@@ -66,6 +67,14 @@ module _ (G : Net) where
     here : {u : ℕ} → Leads labels u [] [] u
     step : {u v w : ℕ} {c : Crossing} {cs : List Crossing} {vs : List ℕ} → Crosses G labels c u v → Leads labels v cs vs w → Leads labels u (c ∷ cs) (v ∷ vs) w
 
+  -- the path by which a node is met leads to it from u
+  pub record PathLeads (labels : List Bool) (u w : ℕ) (path : List ℕ) : Type 0 where
+    pub crossed : List Crossing
+    pub nodes : List ℕ
+    pub leads : Leads labels u crossed nodes w
+    pub path-is : path ++ (w ∷ []) ≡ u ∷ nodes
+    pub starts : at path 0 ≡ u
+
   module _ {labels : List Bool} where
     join : {u w x : ℕ} {cs ds : List Crossing} {vs ws : List ℕ} → Leads labels u cs vs w → Leads labels w ds ws x → Leads labels u (cs ++ ds) (vs ++ ws) x
     join here q = q
@@ -73,13 +82,31 @@ module _ (G : Net) where
 
     -- as the route of them
     pub leads-goes : {u w : ℕ} {cs : List Crossing} {vs : List ℕ} → Leads labels u cs vs w → Goes G labels (u ∷ vs) cs
-    leads-goes here = stays
-    leads-goes (step c p) = goes c (leads-goes p)
+    leads-goes p = record { entries = ap suc (leads-length p); each = leads-each p }
+      where
+        leads-length : {u w : ℕ} {cs : List Crossing} {vs : List ℕ} → Leads labels u cs vs w → length vs ≡ length cs
+        leads-length here = refl
+        leads-length (step c p) = ap suc (leads-length p)
+
+        leads-each : {u w : ℕ} {cs : List Crossing} {vs : List ℕ} → Leads labels u cs vs w
+            → (j : ℕ) → j < length cs → Crosses G labels (crossing cs j) (at (u ∷ vs) j) (at (u ∷ vs) (suc j))
+        leads-each here j h = absurd (omega arith)
+        leads-each (step c p) zero h = c
+        leads-each (step c p) (suc j) h = leads-each p j (omega arith)
 
     -- which ends at w
     pub leads-last : {u w : ℕ} {cs : List Crossing} {vs : List ℕ} → Leads labels u cs vs w → at (u ∷ vs) (length vs) ≡ w
     leads-last here = refl
     leads-last (step c p) = leads-last p
+
+    -- a link that is followed is crossed to its new node
+    crosses-out : (u k v : ℕ) → v ≡ far G u k → k < links → touches G u k ≡ true → has labels k ≡ true → Crosses G labels (out G u k) u v
+    crosses-out u k v e k< h t = let (near, other) = ends-at u k h in record { below = k<; in-tree = t; starts = near; ends = rw Bool·not-not (e ∙ other) }
+
+    -- and it is labelled
+    first : (t : List Bool) (k : ℕ) (below rest : Tree) → k < length t → Extends (labelled rest (labelled below (set t k true))) labels → has labels k ≡ true
+    first t k below rest h x =
+        x .keeps k (labelled-extends rest (labelled below (set t k true)) .keeps k (labelled-extends below (set t k true) .keeps k (getD-set-same t k true false h)))
 
     -- the walk along the tree below u, whose links are labelled
     pub tour-leads : {k u : ℕ} {s : List Bool} {T : Tree} → Follows G k u s T → (t : List Bool) → links ≤ length t → Extends (labelled T t) labels
@@ -90,13 +117,39 @@ module _ (G : Net) where
     tour-leads {k} {u} {T = tree.branch _ _ below rest} (take v e k< h f vn v< p q) t l x =
         let t₁ = set t k true in
         let y = extends-trans (labelled-extends rest (labelled below t₁)) x in
-        let in-tree = y .keeps k (labelled-extends below t₁ .keeps k (getD-set-same t k true false (omega arith))) in
+        let in-tree = first t k below rest (omega arith) x in
         let (near, other) = ends-at u k h in
         let l₁ : links ≤ length t₁ = omega (arith, length-set t k true) in
-        step {v = v} {c = out G u k} (record { below = k<; in-tree = in-tree; starts = near; ends = rw Bool·not-not (e ∙ other) })
+        step (crosses-out u k v e k< h in-tree)
         (join (tour-leads p t₁ l₁ y)
         (step (record { below = k<; in-tree = in-tree; starts = e ∙ other; ends = near })
         (tour-leads q (labelled below t₁) (omega (arith, labelled-extends below t₁ .sized)) x)))
+
+    pub met-leads : {k u w : ℕ} {s : List Bool} {T : Tree} {path : List ℕ} → Follows G k u s T → (t : List Bool) → links ≤ length t → Extends (labelled T t) labels
+        → Met w u T path → PathLeads labels u w path
+    unfolding marked
+    met-leads (pass k< o p) t l x m = met-leads p t l x m
+    met-leads {k} {u} {w} {T = tree.branch _ _ below rest} (take v e k< h f vn v< p q) t l x (now d) = record {
+      crossed = out G u k ∷ [];
+      nodes = w ∷ [];
+      leads = step (crosses-out u k w (d ∙ e) k< h (first t k below rest (omega arith) x)) here;
+      path-is = refl;
+      starts = refl;
+    }
+    met-leads {k} {u} {T = tree.branch _ _ below rest} (take v e k< h f vn v< p q) t l x (deeper m) =
+        let t₁ = set t k true in
+        let y = extends-trans (labelled-extends rest (labelled below t₁)) x in
+        let I = met-leads p t₁ (omega (arith, length-set t k true)) y m in
+        record {
+          crossed = out G u k ∷ (I .crossed);
+          nodes = v ∷ (I .nodes);
+          leads = step (crosses-out u k v e k< h (first t k below rest (omega arith) x)) (I .leads);
+          path-is = ap (λ (vs : List ℕ). u ∷ vs) (I .path-is);
+          starts = refl;
+        }
+    met-leads {k} {u} {T = tree.branch _ _ below rest} (take v e k< h f vn v< p q) t l x (later m) =
+        let t₁ = set t k true in
+        met-leads q (labelled below t₁) (omega (arith, labelled-extends below t₁ .sized, length-set t k true)) x m
 
   -- ---- how often each link is crossed
 

@@ -23,11 +23,11 @@ use Rattle.depth_first.specs.Tree as tree
 use Rattle.depth_first.specs.Tree.{Tree, leaf, marked, visited, labelled, tour}
 use Rattle.depth_first.specs.Search.{unvisited, visit}
 use Rattle.depth_first.specs.Crossings.{Crossing, crossings, times}
-use Rattle.depth_first.specs.Folded.{Ancestor, Folded}
+use Rattle.depth_first.specs.Folded.{Met, MetBy, Ancestor, Folded}
 use Rattle.depth_first.specs.Laws.Unfold.{visited-extends, wide-set, unvisited-all, unvisited-new}
 use Rattle.depth_first.specs.Laws.Follows.{Follows, visits-is, tour-length, New, placed, new-met, met-once}
 use Rattle.depth_first.specs.Laws.Ancestors.{Tried, closes, tried-visits, top, related}
-use Rattle.depth_first.specs.Laws.Crossings.{Leads, here, step, tour-leads, leads-goes, leads-last, Crossed, crossed}
+use Rattle.depth_first.specs.Laws.Crossings.{Leads, here, step, tour-leads, met-leads, leads-goes, leads-last, Crossed, crossed}
 
 -- a node that the walk visits is one of its entries
 new-listed : (T : Tree) (s : List Bool) (u w : ℕ) → New s (visited T s) w → List·Memᴰ w (tour u T)
@@ -137,6 +137,19 @@ module _ (G : Net) (F : Fits G) (root : ℕ) (inside : root < G .nodes)
           go (no a) (yes b) = inr (rw b (top G T s₁ root (low i) (new (low i) (F .low-below i l) a)))
           go (no a) (no b) = related G search i (low i) (high i) l n (inl (refl, refl)) (new (low i) (F .low-below i l) a) (new (high i) (F .high-below i l) b)
 
+      -- the path to a node
+      by-path : (w : ℕ) → (path : List ℕ) × Met w root T path → MetBy G labels root T w
+      by-path w (path, p) =
+          let I = met-leads G search t₀ room (extends-refl labels) p in
+          record {
+            path = path;
+            meets = p;
+            only = λ other q. met-once search p q;
+            starts = I .starts;
+            crossed = I .crossed;
+            along = rw (I .path-is) (leads-goes G (I .leads));
+          }
+
       whole : ((i : ℕ) → i < links → low i ≢ high i) → Folded G root T (root ∷ tour root T) labels
       whole proper =
           let n : length (tour root T) ≡ 2 * nodes - 2 = omega (arith, length-tour, none-left) in
@@ -148,8 +161,8 @@ module _ (G : Net) (F : Fits G) (root : ℕ) (inside : root < G .nodes)
             once = once;
             number = number;
             joined = joined;
-            met = λ w l n. let (path, p) = new-met T s₁ root w (new w l n) in (path, p, λ other q. met-once search p q);
-            others = λ i l _. ancestors i l (proper i l);
+            met = λ w l n. by-path w (new-met T s₁ root w (new w l n));
+            ancestors = λ i l. ancestors i l (proper i l);
             past = past;
           }
 

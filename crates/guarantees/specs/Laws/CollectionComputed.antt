@@ -8,6 +8,7 @@ use Rattle.graph.specs.Plan.{unreached}
 use Rattle.mesh.specs.Mesh.{endsAnswer, linksAnswer, meshAnswer}
 use Rattle.depth_first.specs.Tree.{tour, marked}
 use Rattle.depth_first.specs.Search.{unvisited, visiting, visitBy, visit}
+use Rattle.depth_first.specs.Folded.{now, deeper, later}
 use Rattle.collection.specs.Collection.{collectAnswer, collected, outputAfter}
 use Rattle.guarantees.specs.CollectionBench.{Holds}
 
@@ -17,8 +18,11 @@ unfolding collected collectAnswer outputAfter meshAnswer endsAnswer linksAnswer 
 computed = record {
   route = refl;
   labels = refl;
+  ancestors = deeper (later (deeper (now refl)));
   elsewhere = refl;
   other-labels = refl;
+  smallest = refl;
+  only-label = refl;
   short = (refl, refl);
   parted = (refl, refl, refl);
   no-root = (refl, refl);
