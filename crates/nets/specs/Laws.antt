@@ -1,3 +1,5 @@
 pub mod Fits
 pub mod Table
+pub mod Ways
+pub mod Finds
 pub mod NoPath

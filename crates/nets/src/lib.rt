@@ -2,14 +2,12 @@
 use ends::lower;
 use mesh::Mesh;
 ghost use mathlib.Core.Path.{_≡_};
-ghost use Rattle.mesh.specs.declared.Answer.the-variants.{Accepted};
-ghost use Rattle.mesh.specs.Mesh.{meshAnswer};
-ghost use Rattle.graph.specs.Net.{bothWays};
-ghost use Rattle.nets.specs.Nets.{netOf, Table, Finds};
+ghost use Prim.Native.Nat.{min};
+ghost use Rattle.nets.specs.Nets.{rowsOf, Finds};
 
 // The links, open both ways.
 pub fn all_ways(m: Mesh) -> [u64; 64]
-    ensures { λ r. ⌜ (meshAnswer m ≡ Accepted → Table (netOf m) bothWays r) ⌝ }
+    ensures { λ r. ⌜ r ≡ rowsOf m (min (m .count) 256) ⌝ }
 {
     let links = lower(m.count as usize, 256);
     let mut table = [0u64; 64];

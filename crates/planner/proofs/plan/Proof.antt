@@ -1,5 +1,5 @@
 -- `planner::plan` meets its contract: each way out is one of the outcomes of planning, by what the checks answered and the searches found.
-use mathlib.Core.Path.{_≡_, refl, sym, _∙_}
+use mathlib.Core.Path.{_≡_, sym, _∙_, subst}
 use borrow.Author.Needs.{needs}
 use Rattle.scan.specs.Lowest.{lowest}
 use Rattle.mesh.specs.declared.Mesh.{Mesh}
@@ -10,6 +10,8 @@ use Rattle.graph.specs.Net.{bothWays}
 use Rattle.graph.specs.Plan.{unreached}
 use Rattle.nets.specs.Nets.{netOf, Table}
 use Rattle.nets.specs.Laws.Fits.{fits}
+use Rattle.nets.specs.Laws.Ways.{rows-ways}
+use Rattle.nets.specs.Laws.Finds.{finds-unreached}
 use Rattle.planner.specs.Laws.Outcome.{planned-refused, answer-unchecked, answer-unreached, all-joined, answer-parted, planned-made}
 use Rattle.planner.proofs.plan.Statement.{statement}
 use Rattle.planner.proofs.plan.Tie as tie
@@ -52,10 +54,10 @@ module _ (c : tie.After-lowest-unreached) where
   mesh = told .before .before .before .args .m
 
   ways : Table (netOf mesh) bothWays (c .before .before .all-ways .result)
-  ways = c .before .before .all-ways .ensures (accepted told)
+  ways = subst (Table (netOf mesh) bothWays) (sym (c .before .before .all-ways .ensures)) (rows-ways mesh (accepted told))
 
   found : c .lowest-unreached .result ≡ lowest (unreached (netOf mesh)) (mesh .nodes)
-  found = c .lowest-unreached .ensures (netOf mesh) (fits mesh (accepted told)) refl (passes mesh (accepted told) .nodes-most) ways
+  found = finds-unreached (netOf mesh) (fits mesh (accepted told)) (passes mesh (accepted told) .nodes-most) ways (c .lowest-unreached .ensures)
 
 cast-t12 : tie.Need-cast-t12
 cast-t12 c = search needs
