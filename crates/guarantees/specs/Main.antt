@@ -1,6 +1,6 @@
 -- The theorem page: what is claimed of the library, each theorem stated in full over the definitions that the contracts cite, and proved
 -- by citing one lemma. README.md leads from each demand to its theorem here.
-use Prim.Native.Nat.{ℕ, _-_, _*_, _≤_, _<_}
+use Prim.Native.Nat.{ℕ, suc, _-_, _*_, _≤_, _<_}
 use mathlib.Core.Path.{_≡_, refl}
 use mathlib.Core.Bool.{Bool, true, false}
 use mathlib.Core.Logic.{_⊎_, _↔_, _≢_}
@@ -83,9 +83,10 @@ use Rattle.carried.specs.Laws.Replayed.{replayed-same}
 use Rattle.carried.specs.Laws.Computed as carriedComputed
 use Rattle.guarantees.specs.Bench.{Row, table, Holds}
 use Rattle.depth_first.specs.Search.{Searches}
-use Rattle.depth_first.specs.Crossings.{crossings, Goes, times}
+use Rattle.depth_first.specs.Crossings.{crossings, crossing, Crosses, times}
 use Rattle.depth_first.specs.Folded.{MetBy, Ancestor}
 use Rattle.depth_first.specs.Laws.Unfold.{searches}
+use Rattle.depth_first.specs.Laws.Crossings.{goes-each}
 use Rattle.collection.specs.Collection.{noLabels, treeOf, routeOf, labelsOf, needed, collected}
 use Rattle.collection.specs.Collection as collection
 use Rattle.collection.specs.Meaning.{Connected}
@@ -385,8 +386,9 @@ module _ (m : Mesh) (ok : meshAnswer m ≡ Accepted) (root : ℕ) (inside : root
 
   -- each entry and the next are the ends of a tree link, which the walk crosses from the one to the other. Crossings are of links, so that two links between the same
   -- nodes would not be taken for one
-  pub collection-along : Goes (netOf m) (labelsOf m root) (routeOf m root) (crossings (netOf m) root (treeOf m root))
-  collection-along = collects m ok root inside r c .along
+  pub collection-along : (j : ℕ) → suc j < length (routeOf m root)
+      → Crosses (netOf m) (labelsOf m root) (crossing (crossings (netOf m) root (treeOf m root)) j) (at (routeOf m root) j) (at (routeOf m root) (suc j))
+  collection-along = goes-each (collects m ok root inside r c .along)
 
   -- each tree link is crossed once each way, and no other link
   pub collection-crossed : (i : ℕ) (d : Bool) → times i d (crossings (netOf m) root (treeOf m root)) ≡ bit (has (labelsOf m root) i)

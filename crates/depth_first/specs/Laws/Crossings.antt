@@ -203,3 +203,8 @@ module _ (G : Net) where
     where
       new : has t k ≡ false
       new = ⊎-elim (λ y. clash (rw (e ∙ ends-at u k h .1) (m k y (eqb (low k) u))) f) (λ y. y) (known (has t k))
+
+-- from each entry of a route but the last
+pub goes-each : {G : Net} {labels : List Bool} {route : List ℕ} {cs : List Crossing} → Goes G labels route cs
+    → (j : ℕ) → suc j < length route → Crosses G labels (crossing cs j) (at route j) (at route (suc j))
+goes-each g j h = g .each j (omega (arith, g .entries))
