@@ -1,0 +1,3 @@
+pub mod Drill
+pub mod Input
+pub mod Laws
