@@ -8,7 +8,7 @@ use mathlib.Core.List.{List, [], _∷_, _++_, map, List·Memᴰ}
 use lib.ListN.{length}
 use Rattle.scan.specs.Entry.{at, has}
 use Rattle.scan.specs.Distinct.{Distinct}
-use Rattle.scan.specs.Total.{total}
+use Rattle.scan.specs.Total.{total, count}
 use Rattle.metres.specs.Length.{LengthAlong}
 use Rattle.flood.specs.Digraph.{Digraph}
 use Rattle.flood.specs.Machine as machine
@@ -18,7 +18,7 @@ use Rattle.wavelengths.specs.declared.Wavelength.{Wavelength}
 use Rattle.wavelengths.specs.Wavelength.{numberOf, on}
 use Rattle.mesh.specs.declared.Mesh.{Mesh}
 use Rattle.mesh.specs.declared.Answer.the-variants.{Accepted}
-use Rattle.mesh.specs.WellFormed.{lengths}
+use Rattle.mesh.specs.WellFormed.{link, lengths}
 use Rattle.planner.specs.Plan.{planned}
 use Rattle.formed.specs.declared.Cut.{Cut}
 use Rattle.formed.specs.declared.Cut.the-variants.{Nothing, Link}
@@ -30,6 +30,7 @@ use Rattle.topology.specs.Backup.{backup}
 use Rattle.recovery.specs.Calls.{digraph, failure, started, afterDelivery, routeLengthOf, routeOf, routedAs, routed}
 use Rattle.history.specs.History.{Call, by-value, cut, deliver, run, status, reply, next, after, answers, accepted}
 use Rattle.history.specs.Rules.{Now, start, ruleNext, ruleReply, ruled}
+use Rattle.history.specs.Offered.{noneOffered, offered}
 use Rattle.history.specs.Log.{Log, emptyLog, madeOn, deliveriesOn, logged}
 
 -- ---- a session on one wavelength
@@ -115,6 +116,10 @@ pub record CallFollows (s : Session) (c : Call) : Type 0 where
 
 -- ---- a list of calls
 
+-- no other link joins the ends of link k
+abbrev pub OnlyLink : Mesh → ℕ → Type 0
+OnlyLink m k = (i : ℕ) → i < m .count → (link m i .low ≡ link m k .low) × (link m i .high ≡ link m k .high) → i ≡ k
+
 -- the session that a start on m and its plan gives
 abbrev pub startedOn : Mesh → Session
 startedOn m = started m (planned m .plan) .session
@@ -150,6 +155,10 @@ module _ (m : Mesh) (calls : List Call) where
 
   abbrev pub log : Log
   log = logFrom m (startedOn m) start emptyLog calls
+
+  -- how many links the rules have ever offered on wavelength w since the cut that stands (02, request 6: P)
+  abbrev pub offeredOn : Wavelength → ℕ
+  offeredOn w = count (offered (digraphOn m) calls start noneOffered w) (m .count)
 
   -- the start is accepted, and the calls hold demand 3 from there
   pub record Demand3 : Type 0 where

@@ -5,6 +5,7 @@ pub mod Recovered
 pub mod Refused
 pub mod Routed
 pub mod Measured
+pub mod Offered
 pub mod Ruled
 pub mod RuledCalls
 pub mod RuledNext

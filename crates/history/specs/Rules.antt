@@ -186,7 +186,7 @@ module _ (g : Digraph) where
   effect (mend f j) c n = start
   effect (status j u) c n = n
 
-  abbrev pub changedBy : Answer → Now → Now → Now
+  abbrev pub changedBy : {A : Type 0} → Answer → A → A → A
   changedBy Accepted n after = after
   changedBy (Refused number place) n after = n
 

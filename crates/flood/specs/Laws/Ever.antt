@@ -16,7 +16,8 @@ use Rattle.flood.specs.Laws.Change.{state-rises}
 use Rattle.flood.specs.Laws.Run.{play-append}
 
 module _ (g : Digraph) (c : Failure) (sound : Sound g c) where
-  step-rises : {f : Flood} → Roomy g f → (j i : ℕ) → let v = at (f .states) i in let w = at (step g c j f .states) i in (v ≤ w) × (v ≡ 0 → w ≤ 1)
+  -- a state never falls, and a quiet link's becomes 1 at most
+  pub step-rises : {f : Flood} → Roomy g f → (j i : ℕ) → let v = at (f .states) i in let w = at (step g c j f .states) i in (v ≤ w) × (v ≡ 0 → w ≤ 1)
   step-rises {f} room j i =
       ⊎-elim
       (λ t. let (l, D) = step-is g c sound room j t in let z = state-rises g c D i in (z .0, z .2))

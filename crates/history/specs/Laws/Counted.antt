@@ -1,22 +1,94 @@
--- Under a cut the states of the links on a wavelength tell how many deliveries were made on it since. Assumes 256 entries in the mesh's list of links.
-use Prim.Native.Nat.{ℕ}
-use mathlib.Core.Path.{_≡_, sym}
+-- How many deliveries a wavelength has had since the cut: what the states of its links tell, exactly two for each link ever offered less one for each of its
+-- route at rest, and never more than 2 × L - 4, since no other link joins the ends of the cut one. Assumes 256 entries in the mesh's list of links.
+use Prim.Native.Nat.{ℕ, _+_, _*_, _<_, _≤_}
+use mathlib.Core.Path.{_≡_, sym, ap}
+use mathlib.Core.Logic.{_≢_}
+use mathlib.Core.Bool.{Bool, true, false, cond}
 use mathlib.Core.List.{List}
+use native.Mathlib.Omega.{arith}
+use lib.Dec.{eqb}
 use lib.ListN.{length}
+use Rattle.scan.specs.Entry.{at}
+use Rattle.scan.specs.Total.{bit, count, total-same}
+use Rattle.flood.specs.Machine.{offeredLinks}
+use Rattle.flood.specs.Laws.Route.{rest-exactly}
+use Rattle.flood.specs.Laws.Cut.{cut-made-4}
 use Rattle.wavelengths.specs.declared.Wavelength.{Wavelength}
+use Rattle.wavelengths.specs.declared.Wavelength.the-variants.{First, Second}
+use Rattle.wavelengths.specs.Wavelength.{on}
 use Rattle.wavelengths.specs.Merge.{linksOn}
 use Rattle.mesh.specs.declared.Mesh.{Mesh}
+use Rattle.mesh.specs.declared.Plan.{Plan}
 use Rattle.mesh.specs.declared.Answer.the-variants.{Accepted}
+use Rattle.mesh.specs.WellFormed.{link, WellFormed}
+use Rattle.mesh.specs.Laws.Checked.{well-formed}
+use Rattle.nets.specs.Laws.Fits.{simple}
 use Rattle.planner.specs.Plan.{planned}
+use Rattle.planner.specs.Laws.Meaning.{plan-checked}
+use Rattle.topology.specs.Backup.{backupOn}
 use Rattle.formed.specs.declared.Cut.the-variants.{Link}
+use Rattle.recovery.specs.Session.{floods}
+use Rattle.recovery.specs.Calls.{routeOf}
 use Rattle.history.specs.History.{Call}
 use Rattle.history.specs.Log.{deliveriesOn}
-use Rattle.history.specs.Demand.{hadOn, ended, log}
-use Rattle.history.specs.Laws.Kept.{kept-cut}
-use Rattle.history.specs.Laws.Started.{progress, ended-kept}
+use Rattle.history.specs.Demand.{AtRest, OnlyLink, hadOn, ended, log, offeredOn}
+use Rattle.history.specs.Laws.Kept.{cutSession, played, kept-cut}
+use Rattle.history.specs.Laws.Started.{sound, progress, ended-kept}
+use Rattle.history.specs.Laws.Routed.{rest-seen, route-found}
+use Rattle.history.specs.Laws.Offered.{ended-marks}
 
-pub had-made : (m : Mesh) → length (m .links) ≡ 256 → planned m .answer ≡ Accepted → (calls : List Call) (k : ℕ) → log m calls .cut ≡ Link k
-    → (w : Wavelength) → hadOn (ended m calls) w ≡ deliveriesOn w (log m calls)
-had-made m sized good calls =
-    kept-cut m (planned m .plan) (λ s k ts. (w : Wavelength) → hadOn s w ≡ length (linksOn w ts))
-    (λ k ts q w. sym (progress m good sized q w .spent)) (ended-kept m good sized calls)
+-- ---- links between the same nodes
+
+-- the pairs of ends rise, so that no two links have the same
+only-link : {m : Mesh} → WellFormed m → (k : ℕ) → k < m .count → OnlyLink m k
+only-link W k h i l (low, high) = simple W i k false false l h low high .0
+
+-- two links of which one leads from where the other ends to where it starts have the same ends; d and e tell whether the back-up arc starts at the high end
+turned : (d e : Bool) {low high low′ high′ : ℕ} → low < high → low′ < high′
+    → cond d high low ≡ cond e low′ high′ → cond d low high ≡ cond e high′ low′ → (low ≡ low′) × (high ≡ high′)
+turned true true l l′ t h = absurd (omega arith)
+turned true false l l′ t h = (h, t)
+turned false true l l′ t h = (t, h)
+turned false false l l′ t h = absurd (omega arith)
+
+module _ {m : Mesh} (W : WellFormed m) (p : Plan) {k : ℕ} (k< : k < m .count) (only : OnlyLink m k) where
+  abbrev high-first : ℕ → Bool
+  high-first i = eqb (at (p .directions) i) 0
+
+  -- so no other leads straight from x to y, on either wavelength
+  none-straight : (w : Wavelength) (i : ℕ) → i < m .count → i ≢ k → backupOn w m p .tail i ≡ backupOn w m p .head k → backupOn w m p .head i ≢ backupOn w m p .tail k
+  none-straight First i l other t h = other (only i l (turned (high-first i) (high-first k) (W .joins i l .apart) (W .joins k k< .apart) t h))
+  none-straight Second i l other t h = other (only i l (turned (high-first i) (high-first k) (W .joins i l .apart) (W .joins k k< .apart) h t))
+
+-- ---- after any list of calls, under the cut of link k
+
+module _ (m : Mesh) (sized : length (m .links) ≡ 256) (good : planned m .answer ≡ Accepted) (calls : List Call) where
+  -- by the states
+  pub had-made : (k : ℕ) → log m calls .cut ≡ Link k → (w : Wavelength) → hadOn (ended m calls) w ≡ deliveriesOn w (log m calls)
+  had-made =
+      kept-cut m (planned m .plan) (λ s k ts. (w : Wavelength) → hadOn s w ≡ length (linksOn w ts))
+      (λ k ts q w. sym (progress m good sized q w .spent)) (ended-kept m good sized calls)
+
+  -- the links ever offered are those that are not quiet
+  offered-count : (w : Wavelength) → offeredOn m calls w ≡ offeredLinks (backupOn w m (planned m .plan)) (on w (floods (ended m calls)))
+  unfolding offeredLinks count
+  offered-count w = total-same _ _ (m .count) (λ i l. ap bit (ended-marks m good sized calls w i))
+
+  -- at rest exactly 2 × P - Q
+  pub made-exactly : (k : ℕ) → log m calls .cut ≡ Link k → (w : Wavelength) → AtRest (ended m calls) w
+      → deliveriesOn w (log m calls) + length (routeOf (ended m calls) w) ≡ 2 * offeredOn m calls w
+  made-exactly k e w r = rw (offered-count w) (
+      kept-cut m (planned m .plan)
+      (λ s k ts. (w : Wavelength) → AtRest s w → length (linksOn w ts) + length (routeOf s w) ≡ 2 * offeredLinks (backupOn w m (planned m .plan)) (on w (floods s)))
+      (λ k ts q w r. rest-exactly _ _ (progress m good sized q w) (rest-seen (cutSession m (planned m .plan) k (played m (planned m .plan) k ts)) w r) (route-found m sized good q w r))
+      (ended-kept m good sized calls) k e w r)
+
+  -- never more than 2 × L - 4
+  pub made-most : (k : ℕ) → log m calls .cut ≡ Link k → (w : Wavelength) → deliveriesOn w (log m calls) + 4 ≤ 2 * m .count
+  made-most =
+      kept-cut m (planned m .plan) (λ s k ts. (w : Wavelength) → length (linksOn w ts) + 4 ≤ 2 * m .count)
+      (λ k ts q w.
+      let W = well-formed m sized (plan-checked m good) in
+      cut-made-4 (q .link) (progress m good sized q w) (sound m good sized q w)
+      (none-straight W (planned m .plan) (q .link) (only-link W k (q .link)) w))
+      (ended-kept m good sized calls)

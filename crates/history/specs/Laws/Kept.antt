@@ -164,7 +164,7 @@ module _ (m : Mesh) (p : Plan) where
   none-kept : {s : Session} {l : Log} → Kept s l → Kept s (record { cut = l .cut; made = l .made ++ [] })
   none-kept {s} {l} K = subst (λ (ts : List Turn). Kept s (record { cut = l .cut; made = ts })) (sym (append-nil (l .made))) K
 
-  call-kept : {s : Session} {l : Log} → Kept s l → (c : Call) → Kept (next c s) (note g c (reply c s) (seen s) l)
+  pub call-kept : {s : Session} {l : Log} → Kept s l → (c : Call) → Kept (next c s) (note g c (reply c s) (seen s) l)
   unfolding afterCut afterDelivery afterRun afterMend
   call-kept {s} {l} K (cut f k) = by-answer (cutAnswer s k) refl
     where
@@ -201,7 +201,7 @@ module _ (m : Mesh) (p : Plan) where
 
   module _ (tested : (s : Session) (l : Log) → Kept s l → recordAnswer s ≡ Accepted) where
     -- the rules go on from what the session holds
-    next-now : {s : Session} {l : Log} → Kept s l → (c : Call) → seen (next c s) ≡ ruleNext g c (seen s)
+    pub next-now : {s : Session} {l : Log} → Kept s l → (c : Call) → seen (next c s) ≡ ruleNext g c (seen s)
     next-now {s} {l} K c =
         let (held, planned, _) = kept-holds K in
         next-seen s (kept-sized K) (tested s l K) c ∙ ap₂ (λ (m : Mesh) (p : Plan). ruleNext (backup m p) c (seen s)) held planned
@@ -241,7 +241,7 @@ module _ (m : Mesh) (p : Plan) where
 
   -- so it has made progress by them
   module _ (links : m .count ≤ 256) (nodes : m .nodes ≤ 64) (w : Wavelength) where
-    blank : Blank (graphs m p w) (on w (freshOnEach 256 64))
+    pub blank : Blank (graphs m p w) (on w (freshOnEach 256 64))
     blank = rw (fresh-on w 256 64) (fresh-blank (graphs m p w) 256 64 links nodes)
 
     module _ (strong : Strong g) {k : ℕ} {ts : List Turn} (q : Since k ts) where

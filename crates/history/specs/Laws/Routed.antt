@@ -70,11 +70,15 @@ module _ (m : Mesh) (sized : length (m .links) ≡ 256) (accepted : planned m .a
     abbrev s : Session
     s = cutSession m p k (played m p k ts)
 
-    pub rest-path : AtRest s w → OnePath s w (digraph s w .head k) (digraph s w .tail k) (routeOf s w)
-    rest-path r =
+    -- the route query gives the flood's route
+    pub route-found : AtRest s w → Route (digraph s w) (failure s w) (at (on w (floods s) .states)) (routeOf s w)
+    route-found r =
         let t : restingOn s w ≡ true = rest-seen s w r in
         let (row, route) = rest-route (digraph s w) (failure s w) (progress m accepted sized q w) t (sound m accepted sized q w) in
-        subst (OnePath s w (digraph s w .head k) (digraph s w .tail k)) (sym (query-is s w t route)) (route-path s w (failure s w) route)
+        subst (Route (digraph s w) (failure s w) (at (on w (floods s) .states))) (sym (query-is s w t route)) route
+
+    pub rest-path : AtRest s w → OnePath s w (digraph s w .head k) (digraph s w .tail k) (routeOf s w)
+    rest-path r = route-path s w (failure s w) (route-found r)
 
 -- the route query is accepted
 given : (s : Session) → recordAnswer s ≡ Accepted → standing (s .cut) ≡ true → (w : Wavelength) → routed s (numberOf w) ≡ routedAs Accepted (routeOf s w)

@@ -30,7 +30,7 @@ use Rattle.history.specs.Laws.RuledRun.{play-frames}
 use Rattle.history.specs.Laws.RuledCalls.{answerOf, made, refusal-is, made-seen}
 
 -- every call, as a cut or a mend, hands the session back where it refuses
-next-is : (c : Call) (s : Session) → next c s ≡ change (answerOf c s) s (made c s) .session
+pub next-is : (c : Call) (s : Session) → next c s ≡ change (answerOf c s) s (made c s) .session
 unfolding afterCut afterDelivery afterRun afterMend
 next-is (cut f k) s = refl
 next-is (deliver f k u) s = go (answerOf (deliver f k u) s) _
