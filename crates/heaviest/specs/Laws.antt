@@ -1,3 +1,4 @@
-pub mod Spans
 pub mod Tests
+pub mod Spans
 pub mod Input
+pub mod Drill
