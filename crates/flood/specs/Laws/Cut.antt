@@ -11,7 +11,7 @@ use lib.Dec.{eqb}
 use lib.ListN.{length}
 use borrow.Author.Tests.{eq-eqb, ne-eqb, eqb-false}
 use Rattle.scan.specs.Test.{or-false}
-use Rattle.scan.specs.Total.{count-le, count-add}
+use Rattle.scan.specs.Total.{bit, count, total-but, total-const, count-le, count-add}
 use Rattle.graph.specs.Walk.{Walk, here, step, turn}
 use Rattle.flood.specs.Digraph.{Digraph, Failure, reverse, cut, loss, usable, Arc, Sound}
 use Rattle.flood.specs.Machine.{Flood, atRest}
@@ -67,10 +67,6 @@ loss-leaves g x n y i = (
 module _ (g : Digraph) (c : Failure) where
   open Failure c using (blocked)
 
-  usable-one : (i : ℕ) → i < g .links → blocked i ≡ true → suc (usable g c) ≤ g .links
-  unfolding usable
-  usable-one i l t = omega (arith, count-add (λ m. not (blocked m)) (g .links) i l (ap not t), count-le (λ m. eqb m i || not (blocked m)) (g .links))
-
   usable-two : (i j : ℕ) → i < g .links → j < g .links → i ≢ j → blocked i ≡ true → blocked j ≡ true → suc (suc (usable g c)) ≤ g .links
   unfolding usable
   usable-two i j l m n t u =
@@ -89,26 +85,31 @@ module _ (g : Digraph) (c : Failure) where
 
 -- ---- a cut
 
-module _ {g : Digraph} {k : ℕ} (k< : k < g .links) {n : ℕ} {f : Flood} (q : Progress g (cut g k) n f) where
-  others : suc (usable g (cut g k)) ≤ g .links
-  others = usable-one g (cut g k) k k< (eq-eqb k k refl)
+-- it leaves all other links
+pub cut-usable : (g : Digraph) (k : ℕ) → k < g .links → suc (usable g (cut g k)) ≡ g .links
+unfolding usable count
+cut-usable g k h = omega (arith, total-but (λ i. bit (not (eqb i k))) (λ i. 1) (g .links) k h (λ i l n. rw (ne-eqb i k n)), total-const 1 (g .links), none)
+  where
+    none : bit (not (eqb k k)) ≡ 0
+    none = rw (eq-eqb k k refl)
 
+module _ {g : Digraph} {k : ℕ} (k< : k < g .links) {n : ℕ} {f : Flood} (q : Progress g (cut g k) n f) where
   -- there are at most two deliveries for each other link
   pub cut-made : n ≤ 2 * (g .links - 1)
-  cut-made = omega (arith, made-most g (cut g k) q, others)
+  cut-made = omega (arith, made-most g (cut g k) q, cut-usable g k k<)
 
   -- and after so many none is under way
   pub cut-made-rest : n ≡ 2 * (g .links - 1) → atRest g f ≡ true
-  cut-made-rest e = made-all-rest g (cut g k) q (omega (arith, made-most g (cut g k) q, others))
+  cut-made-rest e = made-all-rest g (cut g k) q (omega (arith, made-most g (cut g k) q, cut-usable g k k<))
 
   module _ (sound : Sound g (cut g k)) where
     -- there are 3 fewer than twice the links
     pub cut-made-3 : n + 3 ≤ 2 * g .links
-    cut-made-3 = omega (arith, made-most-but g (cut g k) sound 1 (λ p r. one-link g (r .chain) (sound .apart)) q, others)
+    cut-made-3 = omega (arith, made-most-but g (cut g k) sound 1 (λ p r. one-link g (r .chain) (sound .apart)) q, cut-usable g k k<)
 
     -- and 4, where no other link leads straight from the head of k to its tail
     pub cut-made-4 : ((i : ℕ) → i < g .links → i ≢ k → g .tail i ≡ g .head k → g .head i ≢ g .tail k) → n + 4 ≤ 2 * g .links
-    cut-made-4 far = omega (arith, made-most-but g (cut g k) sound 2 two q, others)
+    cut-made-4 far = omega (arith, made-most-but g (cut g k) sound 2 two q, cut-usable g k k<)
       where
         two : (p : List ℕ) → SimplePath g (cut g k) p → 2 ≤ length p
         two p r = two-links g (r .chain) (sound .apart) (λ i o. let (l, b) = r .free i o in far i l (eqb-false i k b))
