@@ -2,10 +2,11 @@
 -- refusal 21 is told by walks here, that behind 20 in `nets`. Assumes nothing.
 use Prim.Native.Nat.{ℕ, _<_}
 use mathlib.Core.Path.{_≡_, refl, sym, _∙_, ap, subst}
-use mathlib.Core.Logic.{_⊎_, inl, inr, ⊎-elim, ⊎-map, _↔_}
+use mathlib.Core.Logic.{_⊎_, inl, inr, ⊎-elim, ⊎-map, _↔_, Iff·rfl}
 use mathlib.Core.Bool.{true, false, not}
+use mathlib.Core.List.{List}
 use borrow.Author.Tests.{ltb-true, not-true, not-false}
-use Rattle.scan.specs.Test.{branch, clash}
+use Rattle.scan.specs.Test.{branch, clash, failing}
 use Rattle.scan.specs.Lowest.{lowest, lowest-is, any}
 use Rattle.mesh.specs.declared.Mesh.{Mesh}
 use Rattle.mesh.specs.declared.Plan.{Plan}
@@ -13,16 +14,17 @@ use Rattle.mesh.specs.declared.Answer.{Answer}
 use Rattle.mesh.specs.declared.Answer.the-variants.{Accepted, Refused}
 use Rattle.mesh.specs.Mesh.{meshAnswer}
 use Rattle.mesh.specs.Laws.Answer.{andThen-accepted, Tells, accepting, refusing, told-accepted, told-refused}
-use Rattle.graph.specs.Net.{Net, Fits, bothWays, without, Parted}
+use Rattle.graph.specs.Net.{Net, Fits, bothWays, without, Parted, First}
 use Rattle.graph.specs.Plan.{unreached, parts}
 use Rattle.graph.specs.Greedy.{greedy}
 use Rattle.graph.specs.Laws.Connected.{connects-iff}
-use Rattle.graph.specs.Laws.Refusal.{all-reached, parts-says, refused-iff, planned-first}
+use Rattle.graph.specs.Laws.First.{first-unique}
+use Rattle.graph.specs.Laws.Refusal.{all-reached, parts-says, refused-iff, refused-none, planned-first}
 use Rattle.nets.specs.Nets.{netOf, NoPath}
 use Rattle.nets.specs.Laws.Fits.{fits}
 use Rattle.nets.specs.Laws.NoPath.{any-unreached}
 use Rattle.planner.specs.declared.Planned.{Planned}
-use Rattle.planner.specs.Plan.{planAnswer, plannedAs, planned}
+use Rattle.planner.specs.Plan.{planAnswer, padded, plannedAs, planned}
 use Rattle.planner.specs.Meaning.{LinkParts, FirstPlan}
 use Rattle.planner.specs.Laws.Outcome.{planned-accepted}
 
@@ -90,6 +92,18 @@ plan-first m e =
       plan-is = ap (λ (r : Planned). r .plan) (planned-accepted m ok a b);
       first = planned-first (fits m ok) a b;
     }
+
+-- and the first admissible assignment of a mesh that passes the checks is its plan
+pub first-planned : (m : Mesh) → meshAnswer m ≡ Accepted → (p : List ℕ) → First (netOf m) p → planned m ≡ record { plan = padded p; answer = Accepted }
+first-planned m ok p f =
+    planned-accepted m ok reached whole
+    ∙ ap (λ (q : List ℕ). record { plan = padded q; answer = Accepted }) (first-unique _ p (planned-first (fits m ok) reached whole) f)
+  where
+    reached : any (unreached (netOf m)) (m .nodes) ≡ false
+    reached = failing Iff·rfl (λ e. refused-none (fits m ok) (inl e) p (f .admissible))
+
+    whole : any (parts (netOf m)) (m .count) ≡ false
+    whole = failing Iff·rfl (λ e. refused-none (fits m ok) (inr e) p (f .admissible))
 
 -- planning refuses a mesh that passes the checks just where some two nodes have no path between them, or have none once some one link is taken away
 pub plan-refuses : (m : Mesh) → meshAnswer m ≡ Accepted
