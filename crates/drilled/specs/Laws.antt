@@ -1,3 +1,4 @@
 pub mod Net
 pub mod Plan
 pub mod Flood
+pub mod Calls

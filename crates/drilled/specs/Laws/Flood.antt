@@ -4,7 +4,7 @@ use Prim.Native.Nat.{ℕ, _+_, _*_, _<_}
 use mathlib.Core.Path.{_≡_, refl, sym, _∙_}
 use mathlib.Core.Logic.{_≢_, _⊎_, inl, inr, ⊎-elim, _↔_}
 use mathlib.Core.Bool.{true, false}
-use mathlib.Core.List.{List, _∷_, List·Memᴰ, List·Memᴰ·head, List·Memᴰ·tail}
+use mathlib.Core.List.{List, List·Memᴰ, List·Memᴰ·head, List·Memᴰ·tail}
 use native.Mathlib.Omega.{arith}
 use native.Mathlib.Decide.{ℕ-discrete}
 use lib.ListN.{length}
@@ -26,13 +26,13 @@ module _ (m : ℕ) {s t : ℕ} {g : Digraph} (D : DrillDigraph m s t g) where
   c = cut g (2 * m)
 
   -- link k leads from the source to a middle node, or from one to the target
-  abbrev Leads : ℕ → Type 0
-  Leads k = ((g .tail k ≡ m + s) × (g .head k < m)) ⊎ ((g .tail k < m) × (g .head k ≡ m + t))
+  abbrev Ends : ℕ → Type 0
+  Ends k = ((g .tail k ≡ m + s) × (g .head k < m)) ⊎ ((g .tail k < m) × (g .head k ≡ m + t))
 
-  leads : (k : ℕ) → k < g .links → c .blocked k ≡ false → Leads k
-  leads k h b = by (kind m k (omega (arith, D .links)))
+  ends : (k : ℕ) → k < g .links → c .blocked k ≡ false → Ends k
+  ends k h b = by (kind m k (omega (arith, D .links)))
     where
-      by : Kind m k → Leads k
+      by : Kind m k → Ends k
       by (middle i a l d e) = elim (ℕ-discrete a s) [
         | yes q ↦ let f : k ≡ 2 * i + s = omega arith in let (x, y) = D .into i l in inl (rw f (x, omega arith))
         | no n ↦ let f : k ≡ 2 * i + t = omega (arith, D .sides) in let (x, y) = D .onward i l in inr (rw f (omega arith, y))
@@ -47,14 +47,14 @@ module _ (m : ℕ) {s t : ℕ} {g : Digraph} (D : DrillDigraph m s t g) where
       let (x, y) = D .into i l in
       (λ e. omega (arith, D .sides), (2 * i + s, omega (arith, D .links, D .sides), ne-eqb (2 * i + s) (2 * m) (λ e. omega (arith, D .sides)), x ∙ sym head, y))
 
-  tail-reached : (k : ℕ) → Leads k → (g .tail k ≢ c .target) × Walk (Flow g c) (c .source) (g .tail k)
+  tail-reached : (k : ℕ) → Ends k → (g .tail k ≢ c .target) × Walk (Flow g c) (c .source) (g .tail k)
   tail-reached k (inl (x, y)) = let (tail, head) = D .back in (λ e. omega (arith, D .sides), stay (head ∙ sym x))
   tail-reached k (inr (x, y)) = let (tail, head) = D .back in (λ e. omega arith, one (to-middle (g .tail k) x))
 
   -- ---- every path has two links
 
   abbrev All : List ℕ → Type 0
-  All p = (i : ℕ) → List·Memᴰ i p → Leads i
+  All p = (i : ℕ) → List·Memᴰ i p → Ends i
 
   from-target : {u v : ℕ} {p : List ℕ} → Chain g u p v → u ≡ m + t → All p → length p ≡ 0
   from-target end e f = refl
@@ -71,7 +71,7 @@ module _ (m : ℕ) {s t : ℕ} {g : Digraph} (D : DrillDigraph m s t g) where
       ⊎-elim (λ (x, y). omega (arith, from-middle r y e (λ j o. f j (List·Memᴰ·tail o)))) (λ (x, y). absurd (omega arith)) (f i (List·Memᴰ·head refl))
 
   pub path-two : (p : List ℕ) → SimplePath g c p → length p ≡ 2
-  path-two p P = from-source (P .chain) (D .back .1) (D .back .0) (λ i o. let (l, b) = P .free i o in leads i l b)
+  path-two p P = from-source (P .chain) (D .back .1) (D .back .0) (λ i o. let (l, b) = P .free i o in ends i l b)
 
   -- ---- the deliveries
 
@@ -84,6 +84,6 @@ module _ (m : ℕ) {s t : ℕ} {g : Digraph} (D : DrillDigraph m s t g) where
     rest-drill = (
       λ r.
           let (p, R) = rest-route g c q r sound in
-          omega (arith, rest-exactly g c q r R, path-two p (R .path), rest-offered-all g c q r (λ k l b. tail-reached k (leads k l b)), others),
+          omega (arith, rest-exactly g c q r R, path-two p (R .path), rest-offered-all g c q r (λ k l b. tail-reached k (ends k l b)), others),
       λ e. made-all-but-rest g c sound 2 (λ p P. omega (arith, path-two p P)) q (omega (arith, others)),
     )
