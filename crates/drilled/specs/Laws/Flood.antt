@@ -75,15 +75,14 @@ module _ (m : ℕ) {s t : ℕ} {g : Digraph} (D : DrillDigraph m s t g) where
 
   -- ---- the deliveries
 
-  -- whatever was delivered, in whatever order: there were 4 × m - 2 deliveries just where no link is under way
-  module _ (sound : Sound g c) {n : ℕ} {f : Flood} (q : Progress g c n f) where
-    others : 2 * usable g c ≡ 4 * m
-    others = omega (arith, cut-usable g (2 * m) (omega (arith, D .links)), D .links)
+  others : usable g c ≡ 2 * m
+  others = omega (arith, cut-usable g (2 * m) (omega (arith, D .links)), D .links)
 
-    pub rest-drill : (atRest g f ≡ true) ↔ (n + 2 ≡ 4 * m)
-    rest-drill = (
-      λ r.
-          let (p, R) = rest-route g c q r sound in
-          omega (arith, rest-exactly g c q r R, path-two p (R .path), rest-offered-all g c q r (λ k l b. tail-reached k (ends k l b)), others),
-      λ e. made-all-but-rest g c sound 2 (λ p P. omega (arith, path-two p P)) q (omega (arith, others)),
-    )
+  -- whatever was delivered, in whatever order: no link is under way exactly after 4 × m - 2 deliveries
+  pub rest-drill : Sound g c → {n : ℕ} {f : Flood} → Progress g c n f → (atRest g f ≡ true) ↔ (n + 2 ≡ 4 * m)
+  rest-drill sound q = (
+    λ r.
+        let (p, R) = rest-route g c q r sound in
+        omega (arith, rest-exactly g c q r R, path-two p (R .path), rest-offered-all g c q r (λ k l b. tail-reached k (ends k l b)), others),
+    λ e. made-all-but-rest g c sound 2 (λ p P. omega (arith, path-two p P)) q (omega (arith, others)),
+  )
