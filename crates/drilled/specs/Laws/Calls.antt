@@ -4,7 +4,6 @@ use Prim.Native.Nat.{ℕ, _+_, _*_, _<_, _≤_}
 use mathlib.Core.Path.{_≡_, refl, sym, ap, subst}
 use mathlib.Core.Logic.{_↔_}
 use mathlib.Core.List.{List}
-use native.Mathlib.Omega.{arith}
 use lib.ListN.{length}
 use Rattle.wavelengths.specs.declared.Wavelength.{Wavelength}
 use Rattle.wavelengths.specs.Merge.{Turn, linksOn}
@@ -22,7 +21,7 @@ use Rattle.history.specs.Log.{deliveriesOn}
 use Rattle.history.specs.Demand.{AtRest, ended, log}
 use Rattle.history.specs.Laws.Kept.{cutSession, played, Since, kept-cut}
 use Rattle.history.specs.Laws.Started.{sound, progress, ended-kept}
-use Rattle.history.specs.Laws.Routed.{rest-seen, seen-rest, rest-path}
+use Rattle.history.specs.Laws.Routed.{rest-seen, seen-rest, route-found}
 use Rattle.drilled.specs.Laws.Plan.{drill-planned, drill-backup}
 use Rattle.drilled.specs.Laws.Flood.{path-two, rest-drill}
 
@@ -48,13 +47,7 @@ module _ (m : ℕ) (some : 0 < m) (most : m ≤ 62) where
       let f = progress (drill m) accepted (drill-sized m most) q w in
       let (out, into) = rest-drill m D (sound (drill m) accepted (drill-sized m most) q w) f in (
         (λ r. out (rest-seen s w r), λ e. seen-rest s w (into e)),
-        λ r.
-            let P = rest-path (drill m) (drill-sized m most) accepted q w r in
-            path-two m D (routeOf s w) (record {
-              chain = P .in-a-row;
-              simple = P .no-node-twice;
-              free = λ i o. let (l, e) = P .all-taken i .0 o in (l, f .inv .opened i l .0 (omega arith) .2);
-            }),
+        λ r. path-two m D (routeOf s w) (route-found (drill m) (drill-sized m most) accepted q w r .path),
       )
 
   module _ (calls : List Call) (stands : log (drill m) calls .cut ≡ Link (2 * m)) (w : Wavelength) where

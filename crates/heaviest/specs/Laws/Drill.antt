@@ -15,6 +15,7 @@ use Rattle.mesh.specs.Mesh.{zeroLink, meshAnswer}
 use Rattle.mesh.specs.WellFormed.{link, Joins, Rises, WellFormed, LinkInRange, InRange}
 use Rattle.mesh.specs.Laws.Checked.{accepts}
 use Rattle.heaviest.specs.Drill.{span, spansAt, spansBelow, drillLinks, drill}
+use Rattle.heaviest.specs.Laws.Spans.{spans-length, links-length}
 
 -- ---- link numbers
 
@@ -32,11 +33,6 @@ kind m k h = elim (decLt k (2 * m)) [
 module _ (m : ℕ) where
   -- ---- the list of links
 
-  spans-length : (n : ℕ) → length (spansBelow m n) ≡ 2 * n
-  unfolding spansBelow
-  spans-length zero = refl
-  spans-length (suc n) = omega (arith, length-append (spansBelow m n) (spansAt m n), spans-length n)
-
   span-at : (i a : ℕ) → a < 2 → getD (spansAt m i) a zeroLink ≡ span i (m + a)
   span-at i zero b = ap (span i) (omega arith)
   span-at i (suc zero) b = refl
@@ -46,44 +42,41 @@ module _ (m : ℕ) where
   unfolding spansBelow
   spans-at zero i a l b = absurd (omega arith)
   spans-at (suc n) i a l b = elim (decLt i n) [
-    | yes h ↦ List·getD-append (spansBelow m n) (spansAt m n) zeroLink (2 * i + a) (omega (arith, spans-length n)) ∙ spans-at n i a h b
+    | yes h ↦ List·getD-append (spansBelow m n) (spansAt m n) zeroLink (2 * i + a) (omega (arith, spans-length m n)) ∙ spans-at n i a h b
     | no h ↦
         let e : i ≡ n = omega arith in
-        let f : 2 * i + a ≡ length (spansBelow m n) + a = omega (arith, spans-length n) in
+        let f : 2 * i + a ≡ length (spansBelow m n) + a = omega (arith, spans-length m n) in
         rw (f, e) (getD-append-add (spansBelow m n) (spansAt m n) a zeroLink ∙ span-at n a b)
   ]
 
   abbrev rest : List Link
   rest = replicate (256 - (2 * m + 1)) zeroLink
 
-  links-length : length (drillLinks m) ≡ 2 * m + 1
-  links-length = omega (arith, length-append (spansBelow m m) (span m (m + 1) ∷ []), spans-length m)
-
   -- ---- the links of the mesh
 
   in-list : (k : ℕ) → k < 2 * m + 1 → link (drill m) k ≡ getD (drillLinks m) k zeroLink
-  in-list k h = List·getD-append (drillLinks m) rest zeroLink k (omega (arith, links-length))
+  in-list k h = List·getD-append (drillLinks m) rest zeroLink k (omega (arith, links-length m))
 
   pub middle-link : (i a : ℕ) → i < m → a < 2 → link (drill m) (2 * i + a) ≡ span i (m + a)
   middle-link i a l b =
       in-list (2 * i + a) (omega arith)
-      ∙ List·getD-append (spansBelow m m) (span m (m + 1) ∷ []) zeroLink (2 * i + a) (omega (arith, spans-length m))
+      ∙ List·getD-append (spansBelow m m) (span m (m + 1) ∷ []) zeroLink (2 * i + a) (omega (arith, spans-length m m))
       ∙ spans-at m i a l b
 
   pub across-link : link (drill m) (2 * m) ≡ span m (m + 1)
-  across-link = in-list (2 * m) (omega arith) ∙ getD-at (spansBelow m m) (span m (m + 1)) [] zeroLink (2 * m) (spans-length m)
+  across-link = in-list (2 * m) (omega arith) ∙ getD-at (spansBelow m m) (span m (m + 1)) [] zeroLink (2 * m) (spans-length m m)
 
-  pub past-link : (k : ℕ) → 2 * m + 1 ≤ k → link (drill m) k ≡ zeroLink
+  past-link : (k : ℕ) → 2 * m + 1 ≤ k → link (drill m) k ≡ zeroLink
   past-link k h =
-      let e : length (drillLinks m) + (k - length (drillLinks m)) ≡ k = omega (arith, links-length) in
+      let e : length (drillLinks m) + (k - length (drillLinks m)) ≡ k = omega (arith, links-length m) in
       ap (λ (j : ℕ). getD (drillLinks m ++ rest) j zeroLink) (sym e)
       ∙ getD-append-add (drillLinks m) rest (k - length (drillLinks m)) zeroLink
       ∙ replicate-at (256 - (2 * m + 1)) zeroLink (k - length (drillLinks m))
 
-  pub near-link : (i : ℕ) → i < m → link (drill m) (2 * i) ≡ span i m
+  near-link : (i : ℕ) → i < m → link (drill m) (2 * i) ≡ span i m
   near-link i l = let e : 2 * i ≡ 2 * i + 0 = omega arith in rw e (middle-link i 0 l (omega arith) ∙ ap (span i) (omega arith))
 
-  pub far-link : (i : ℕ) → i < m → link (drill m) (2 * i + 1) ≡ span i (m + 1)
+  far-link : (i : ℕ) → i < m → link (drill m) (2 * i + 1) ≡ span i (m + 1)
   far-link i l = middle-link i 1 l (omega arith)
 
   -- ---- the mesh checks
@@ -104,9 +97,9 @@ module _ (m : ℕ) where
 
   module _ (most : m ≤ 62) where
     pub drill-sized : length (drill m .links) ≡ 256
-    drill-sized = omega (arith, length-append (drillLinks m) rest, links-length, length-replicate (256 - (2 * m + 1)) zeroLink)
+    drill-sized = omega (arith, length-append (drillLinks m) rest, links-length m, length-replicate (256 - (2 * m + 1)) zeroLink)
 
-    pub drill-formed : WellFormed (drill m)
+    drill-formed : WellFormed (drill m)
     drill-formed = record {
       nodes-least = omega arith;
       nodes-most = omega arith;

@@ -1,4 +1,4 @@
--- The loop that stores the drill's links in an array: what this holds before each turn, one turn, the end. Assumes nothing.
+-- How many links the drill has, and the loop that stores them in an array: what this holds before each turn, one turn, the end. Assumes nothing.
 use Prim.Native.Nat.{ℕ, zero, suc, _+_, _*_, _-_, _≤_}
 use mathlib.Core.Path.{_≡_, refl, sym, _∙_, ap}
 use mathlib.Core.List.{List, [], _∷_, _++_}
@@ -16,6 +16,9 @@ module _ (m : ℕ) where
   unfolding spansBelow
   spans-length zero = refl
   spans-length (suc n) = omega (arith, length-append (spansBelow m n) (spansAt m n), spans-length n)
+
+  pub links-length : length (drillLinks m) ≡ 2 * m + 1
+  links-length = omega (arith, length-append (spansBelow m m) (span m (m + 1) ∷ []), spans-length m)
 
   -- a run of stores behind the links of the middle nodes below n, in any array
   stored-then : (l : List Link) (n : ℕ) (vs : List Link) → sets (sets l 0 (spansBelow m n)) (2 * n) vs ≡ sets l 0 (spansBelow m n ++ vs)
@@ -38,7 +41,6 @@ module _ (m : ℕ) where
   pub stored-all : m ≤ 62 → set (stored m) (2 * m) (span m (m + 1)) ≡ drill m .links
   unfolding stored
   stored-all h =
-      let long : length (drillLinks m) ≡ 2 * m + 1 = omega (arith, length-append (spansBelow m m) (span m (m + 1) ∷ []), spans-length m) in
       stored-then (replicate 256 zeroLink) m (span m (m + 1) ∷ [])
-      ∙ sets-replicate 256 zeroLink (drillLinks m) (omega arith)
-      ∙ ap (λ (k : ℕ). drillLinks m ++ replicate (256 - k) zeroLink) long
+      ∙ sets-replicate 256 zeroLink (drillLinks m) (omega (arith, links-length))
+      ∙ ap (λ (k : ℕ). drillLinks m ++ replicate (256 - k) zeroLink) links-length
