@@ -8,6 +8,7 @@ pub mod case;
 pub mod collection;
 pub mod corpus;
 pub mod digest;
+pub mod drill;
 pub mod ducts;
 pub mod entries;
 pub mod listing;

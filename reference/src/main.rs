@@ -9,6 +9,8 @@
 //! input and writes what `dig` prints; `reference collecting ROOT` reads a book
 //! and writes the input of the program `bus` for this book and this root;
 //! `reference bus` reads such an input and writes what `bus` prints;
+//! `reference drill` reads a number of middle nodes and writes what the program
+//! `drill` writes, the book of that drill's mesh;
 //! `reference meshplan` reads a book and lists its mesh, its plan and every cut;
 //! `reference book` reads a text table and writes its book;
 //! `reference table` reads a book and writes its text table;
@@ -56,6 +58,7 @@ fn main() -> ExitCode {
             Err(why) => wrong_words(&why),
         },
         ["bus"] => finish(write_bus()),
+        ["drill"] => finish(write_drill()),
         ["meshplan"] => finish(write_meshplan()),
         ["book"] => exit(write_book()),
         ["table"] => exit(write_text_table()),
@@ -74,8 +77,8 @@ fn usage() -> ExitCode {
         "usage: reference corpus SEED BOOK.. | reference expect | reference script CALL.. | \
          reference calls | reference show | reference digging link LINK | \
          reference digging duct DUCT | reference dig | reference collecting ROOT | \
-         reference bus | reference meshplan | reference book | reference table | \
-         reference bench | \
+         reference bus | reference drill | reference meshplan | reference book | \
+         reference table | reference bench | \
          reference time BENCH MESHPLAN [EARLIER-BENCH EARLIER-MESHPLAN]"
     );
     ExitCode::from(2)
@@ -134,6 +137,10 @@ fn write_collecting(root: u8) -> io::Result<()> {
 
 fn write_bus() -> io::Result<()> {
     write_answer(programs::bus::answer(&read_input()?))
+}
+
+fn write_drill() -> io::Result<()> {
+    io::stdout().write_all(&programs::drill::answer(&read_input()?))
 }
 
 /// None is the answer to an ill-formed input.

@@ -1,7 +1,8 @@
-//! What the programs `calls`, `show`, `dig` and `bus` read and print.
+//! What the programs `calls`, `show`, `dig`, `bus` and `drill` read and print.
 
 pub mod bus;
 pub mod dig;
+pub mod drill;
 
 use crate::book::{decode, MOST_BOOK_BYTES};
 use crate::listing::scripts::call_line;

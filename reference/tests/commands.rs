@@ -178,6 +178,19 @@ fn collecting_writes_the_input_of_bus() {
 }
 
 #[test]
+fn drill_writes_a_book_or_refuses() {
+    assert_eq!(run(&["drill"], b"1").stdout, P1);
+    assert_eq!(run(&["drill"], b"1\n").stdout, P1);
+    let long = [&b"1\n"[..], &[b'\n'; 1_000_000]].concat();
+    for input in [&b""[..], b"0", b"63", b"01", b"1\r\n", &long] {
+        let output = run(&["drill"], input);
+        assert!(output.status.success());
+        assert_eq!(output.stdout, b"refused\n");
+    }
+    assert_eq!(run(&["drill", "1"], b"1").status.code(), Some(2));
+}
+
+#[test]
 fn expect_lists_a_planning() {
     let output = run(&["expect"], b"P\x03\x03\0\0\x01\0\x02\x01\x02");
     let expected = "planning 0 3 3\nplan accepted\ndirections 010\nrest 0\n";
