@@ -69,17 +69,13 @@ mod tests {
 
     #[test]
     fn of_three_bytes_only_two_digits_and_a_line_feed_ask_for_a_drill() {
+        let near = |digit: u8| (b'/'..=b':').contains(&digit);
         let mut all = Vec::new();
-        for first in 0..=255 {
-            for second in 0..=255 {
-                let near = [b'\n', b'\r', 0, b' ', b'0', b'9'];
-                all.extend(
-                    near.into_iter()
-                        .filter_map(|last| asked(&[first, second, last])),
-                );
+        for first in (0..=255).filter(|byte| near(*byte)) {
+            for second in (0..=255).filter(|byte| near(*byte)) {
+                all.extend((0..=255).filter_map(|last| asked(&[first, second, last])));
             }
         }
-        all.sort_unstable();
         assert_eq!(all, (10..=62).collect::<Vec<u8>>());
     }
 
