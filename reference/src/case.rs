@@ -14,6 +14,8 @@ const LISTING: u8 = b'L';
 const UPGRADE: u8 = b'U';
 const DUCTS: u8 = b'D';
 const COLLECTION: u8 = b'C';
+const DRILL_INPUT: u8 = b'H';
+const DRILL_MESH: u8 = b'N';
 
 /// The greatest room of a case and the greatest length of its book.
 pub const MOST_BYTES: usize = 2_900;
@@ -21,6 +23,9 @@ pub const MOST_BYTES: usize = 2_900;
 /// The greatest number of entries of the output of a duct query or a collection
 /// route.
 pub const MOST_ENTRIES: usize = 300;
+
+/// The greatest length of a drill's input.
+pub const MOST_INPUT: usize = 300;
 
 #[derive(Clone, Debug, PartialEq, Eq)]
 pub enum Case {
@@ -51,6 +56,10 @@ pub enum Case {
         root: u8,
         mesh: Box<Mesh>,
     },
+    /// An input of the program drill.
+    DrillInput { input: Vec<u8> },
+    /// The mesh of a drill by its number of middle nodes, and the output's size.
+    DrillMesh { room: u16, middles: u8 },
 }
 
 /// The bytes of a corpus, one case after the other.
@@ -86,6 +95,14 @@ pub fn write_cases(cases: &[Case]) -> Vec<u8> {
                 output.push(*root);
                 write_mesh(mesh, &mut output);
             }
+            Case::DrillInput { input } => {
+                output.push(DRILL_INPUT);
+                write_bytes(input, &mut output);
+            }
+            Case::DrillMesh { room, middles } => {
+                write_room(DRILL_MESH, *room, &mut output);
+                output.push(*middles);
+            }
         }
     }
     output
@@ -103,10 +120,10 @@ fn write_book(room: u16, link: u16, book: &[u8], output: &mut Vec<u8>) {
     write_bytes(book, output);
 }
 
-/// The length and the book.
-fn write_bytes(book: &[u8], output: &mut Vec<u8>) {
-    output.extend((book.len() as u16).to_le_bytes());
-    output.extend(book);
+/// The length and the bytes, of a book or an input.
+fn write_bytes(bytes: &[u8], output: &mut Vec<u8>) {
+    output.extend((bytes.len() as u16).to_le_bytes());
+    output.extend(bytes);
 }
 
 fn write_planning(mesh: &Mesh, output: &mut Vec<u8>) {
@@ -139,6 +156,8 @@ fn read_case(reader: &mut Reader) -> Option<Case> {
         UPGRADE => read_upgrade(reader).map(|upgrade| Case::Upgrade(Box::new(upgrade))),
         DUCTS => read_ducts(reader),
         COLLECTION => read_collection(reader),
+        DRILL_INPUT => read_drill_input(reader),
+        DRILL_MESH => read_drill_mesh(reader),
         _ => None,
     }
 }
@@ -173,6 +192,18 @@ fn read_collection(reader: &mut Reader) -> Option<Case> {
     let root = reader.one()?;
     let mesh = read_mesh(reader)?;
     Some(Case::Collection { room, root, mesh })
+}
+
+/// None if the input is too long.
+fn read_drill_input(reader: &mut Reader) -> Option<Case> {
+    let input = read_bytes(reader)?;
+    (input.len() <= MOST_INPUT).then_some(Case::DrillInput { input })
+}
+
+fn read_drill_mesh(reader: &mut Reader) -> Option<Case> {
+    let room = reader.two()?;
+    let middles = reader.one()?;
+    Some(Case::DrillMesh { room, middles })
 }
 
 /// The number of an output's entries; none if it is too large.

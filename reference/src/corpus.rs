@@ -4,6 +4,7 @@ pub mod accepted;
 pub mod changed;
 pub mod collections;
 pub mod draft;
+pub mod drills;
 pub mod ducts;
 pub mod faults;
 pub mod graphs;
@@ -32,7 +33,8 @@ use crate::random::Random;
 
 /// All cases of the corpus: books first, then mesh records, then plannings,
 /// then scripts, then books to list, then old sessions, then duct queries, then
-/// collection routes. Those about ducts are drawn aside.
+/// collection routes, then drills: their inputs, their meshes and scripts on
+/// these. Those about ducts are drawn aside.
 pub fn make(seed: u64) -> Vec<Case> {
     let mut random = Random::new(seed);
     let mut aside = random.aside();
@@ -57,6 +59,7 @@ pub fn make(seed: u64) -> Vec<Case> {
     cases.extend(upgrades::cases(seed));
     cases.extend(ducts::queries::cases(&mut aside));
     cases.extend(collections::cases(seed));
+    cases.extend(drills::cases(seed));
     cases
 }
 

@@ -1,6 +1,7 @@
 //! The expected listing of a corpus.
 
 pub mod collections;
+pub mod drills;
 pub mod ducts;
 #[cfg(test)]
 mod expected;
@@ -34,6 +35,8 @@ pub fn listing(cases: &[Case]) -> Result<String, String> {
             Case::Upgrade(upgrade) => lines.upgrade(number, upgrade),
             Case::Ducts { room, link, mesh } => lines.ducts(number, *room, *link, mesh),
             Case::Collection { room, root, mesh } => lines.collection(number, *room, *root, mesh),
+            Case::DrillInput { input } => lines.drill_input(number, input),
+            Case::DrillMesh { room, middles } => lines.drill_mesh(number, *room, *middles)?,
         }
     }
     Ok(lines.text)
@@ -63,6 +66,11 @@ impl Lines {
 
     fn mesh_record(&mut self, number: usize, room: u16, mesh: &Mesh) -> Result<(), String> {
         self.line(&format!("record-of-mesh {number}"));
+        self.record_lines(number, room, mesh)
+    }
+
+    /// The lines of a mesh record after the first.
+    fn record_lines(&mut self, number: usize, room: u16, mesh: &Mesh) -> Result<(), String> {
         self.answer("check", mesh.check());
         self.write(mesh, room);
         let plan = self.plan(number, mesh)?;

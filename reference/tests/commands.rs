@@ -187,7 +187,7 @@ fn drill_writes_a_book_or_refuses() {
         assert!(output.status.success());
         assert_eq!(output.stdout, b"refused\n");
     }
-    assert_eq!(run(&["drill", "1"], b"1").status.code(), Some(2));
+    assert_eq!(run(&["drill", "1"], b"").status.code(), Some(2));
 }
 
 #[test]

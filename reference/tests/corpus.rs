@@ -3,7 +3,7 @@
 use std::collections::BTreeSet;
 use std::sync::OnceLock;
 
-use reference::case::{read_cases, write_cases, Case, MOST_BYTES, MOST_ENTRIES};
+use reference::case::{read_cases, write_cases, Case, MOST_BYTES, MOST_ENTRIES, MOST_INPUT};
 use reference::corpus;
 use reference::listing::listing;
 
@@ -16,8 +16,8 @@ struct Part {
 }
 
 /// Books, mesh records, plannings, scripts, books to list, old sessions, duct
-/// queries, collection routes.
-type Parts = [Part; 8];
+/// queries, collection routes, drills' inputs, drills' meshes.
+type Parts = [Part; 10];
 
 fn kind(case: &Case) -> usize {
     match case {
@@ -29,6 +29,8 @@ fn kind(case: &Case) -> usize {
         Case::Upgrade(_) => 5,
         Case::Ducts { .. } => 6,
         Case::Collection { .. } => 7,
+        Case::DrillInput { .. } => 8,
+        Case::DrillMesh { .. } => 9,
     }
 }
 
@@ -39,7 +41,7 @@ fn corpora() -> &'static [Parts] {
 }
 
 fn parts(cases: &[Case]) -> Parts {
-    [0, 1, 2, 3, 4, 5, 6, 7].map(|number| {
+    [0, 1, 2, 3, 4, 5, 6, 7, 8, 9].map(|number| {
         let of_kind = cases.iter().filter(|case| kind(case) == number);
         let cases: Vec<Case> = of_kind.cloned().collect();
         let listing = listing(&cases).expect("both methods of planning agree");
@@ -123,24 +125,33 @@ fn an_ill_formed_old_session_of_a_corpus_is_an_error() {
     assert!(read_cases(&upgrade(256, 64)).is_err());
 }
 
+/// The scripts on drills' meshes come after these.
 #[test]
-fn each_kind_stands_together() {
+fn each_kind_stands_together_but_for_scripts_at_the_end() {
     for seed in SEEDS {
         let cases = corpus::make(seed);
-        assert!(cases.windows(2).all(|two| kind(&two[0]) <= kind(&two[1])));
+        let is_mesh = |case| matches!(case, &Case::DrillMesh { .. });
+        let last_mesh = cases.iter().rposition(is_mesh).unwrap();
+        let (before, scripts) = cases.split_at(last_mesh + 1);
+        assert!(before.windows(2).all(|two| kind(&two[0]) <= kind(&two[1])));
+        assert!(scripts.len() >= 100);
+        assert!(scripts.iter().all(|case| matches!(case, Case::Script(_))));
     }
 }
 
 #[test]
 fn counts_and_sizes() {
     // Books, mesh records, plannings, scripts, books to list, old sessions, duct
-    // queries, collection routes.
-    let fewest = [7_000, 2_500, 3_000, 4_500, 1_300, 550, 1_200, 1_700];
+    // queries, collection routes, drills' inputs, drills' meshes.
+    let fewest = [
+        7_000, 2_500, 3_000, 4_600, 1_300, 550, 1_200, 1_700, 2_500, 277,
+    ];
     let most_bytes = [
-        450_000, 350_000, 500_000, 1_300_000, 250_000, 300_000, 300_000, 220_000,
+        450_000, 350_000, 500_000, 1_360_000, 250_000, 300_000, 300_000, 220_000, 50_000, 1_200,
     ];
     let longest_listings = [
-        1_900_000, 600_000, 400_000, 10_200_000, 1_800_000, 1_550_000, 200_000, 200_000,
+        1_900_000, 600_000, 400_000, 11_000_000, 1_800_000, 1_550_000, 200_000, 200_000, 90_000,
+        260_000,
     ];
     for parts in corpora() {
         for (number, part) in parts.iter().enumerate() {
@@ -149,9 +160,9 @@ fn counts_and_sizes() {
             assert!(part.listing.len() < longest_listings[number]);
         }
         let bytes = parts.iter().map(|part| write_cases(&part.cases).len());
-        assert!(bytes.sum::<usize>() < 3_100_000);
+        assert!(bytes.sum::<usize>() < 3_200_000);
         let listings = parts.iter().map(|part| part.listing.len());
-        assert!(listings.sum::<usize>() < 16_300_000);
+        assert!(listings.sum::<usize>() < 17_400_000);
     }
 }
 
@@ -160,13 +171,17 @@ fn rooms_and_books_are_within_the_limit() {
     for case in corpora().iter().flatten().flat_map(|part| &part.cases) {
         let (room, length) = match case {
             Case::Book { room, book, .. } => (*room, book.len()),
-            Case::Mesh { room, .. } => (*room, 0),
+            Case::Mesh { room, .. } | Case::DrillMesh { room, .. } => (*room, 0),
             Case::Planning { .. } => (0, 0),
             Case::Script(script) => (0, script.book.len()),
             Case::Listing { book } => (0, book.len()),
             Case::Upgrade(_) => (0, 0),
             Case::Ducts { room, .. } | Case::Collection { room, .. } => {
                 assert!(usize::from(*room) <= MOST_ENTRIES);
+                (0, 0)
+            }
+            Case::DrillInput { input } => {
+                assert!(input.len() <= MOST_INPUT);
                 (0, 0)
             }
         };
@@ -326,7 +341,7 @@ fn four_lists_have_thousands_of_calls() {
 
 #[test]
 fn duct_queries_are_answered_and_leave_the_rest() {
-    for [.., queries, _] in corpora() {
+    for [_, _, _, _, _, _, queries, ..] in corpora() {
         let listing = &queries.listing;
         assert!(count_lines(listing, "sharing accepted") >= 400);
         assert!(count_lines(listing, "sharing refused 11 ") >= 150);
@@ -351,7 +366,7 @@ fn values(line: &str) -> Vec<&str> {
 
 #[test]
 fn collection_routes_have_their_tree_links_and_leave_the_rest() {
-    for [.., collections] in corpora() {
+    for [.., collections, _, _] in corpora() {
         let listing = &collections.listing;
         assert!(count_lines(listing, "collect accepted") >= 650);
         assert!(count_lines(listing, "collect refused 6 0") >= 115);
@@ -367,6 +382,27 @@ fn collection_routes_have_their_tree_links_and_leave_the_rest() {
             assert_eq!(tree.len(), count / 2);
             assert_eq!(count > 0, route[1] == "collect accepted");
         }
+    }
+}
+
+#[test]
+fn every_drill_is_asked_for_in_two_ways_and_written() {
+    for [.., inputs, meshes] in corpora() {
+        for middles in 1..=62 {
+            let line = format!("asked {middles}");
+            let asked = inputs.listing.lines().filter(|asked| *asked == line);
+            assert_eq!(asked.count(), 2);
+        }
+        let asked = inputs.listing.lines().skip(1).step_by(2);
+        let refused = asked.filter(|line| *line == "asked refused").count();
+        assert_eq!(refused, inputs.cases.len() - 2 * 62);
+        let listing = &meshes.listing;
+        assert_eq!(count_lines(listing, "check accepted"), 62 + 6 * 3);
+        assert_eq!(count_lines(listing, "plan accepted"), 62 + 6 * 3);
+        assert_eq!(count_lines(listing, "start accepted"), 62 + 6 * 3);
+        assert_eq!(count_lines(listing, "write accepted"), 62 + 6);
+        assert_eq!(count_lines(listing, "write refused 11 "), 6 * 2);
+        assert_eq!(count_lines(listing, "check refused 3 0"), 194 + 3);
     }
 }
 
