@@ -1,4 +1,5 @@
 pub mod Computed
 pub mod DuctsComputed
 pub mod CollectionComputed
+pub mod DrillComputed
 pub mod Same

@@ -2,4 +2,5 @@ pub mod Main
 pub mod Bench
 pub mod DuctBench
 pub mod CollectionBench
+pub mod DrillBench
 pub mod Laws

@@ -1,6 +1,6 @@
 -- The theorem page: what is claimed of the library, each theorem stated in full over the definitions that the contracts cite, and proved
 -- by citing one lemma. README.md leads from each demand to its theorem here.
-use Prim.Native.Nat.{ℕ, suc, _-_, _*_, _≤_, _<_}
+use Prim.Native.Nat.{ℕ, suc, _+_, _-_, _*_, _≤_, _<_}
 use mathlib.Core.Path.{_≡_, refl}
 use mathlib.Core.Bool.{Bool, true, false}
 use mathlib.Core.Logic.{_⊎_, _↔_, _≢_}
@@ -29,7 +29,7 @@ use Rattle.graph.specs.Net.{Strong, Parted, bothWays, without, First}
 use Rattle.graph.specs.Laws.First.{first-unique}
 use Rattle.nets.specs.Nets.{netOf, NoPath}
 use Rattle.nets.specs.Laws.Fits.{fits}
-use Rattle.planner.specs.Plan.{planned}
+use Rattle.planner.specs.Plan.{padded, planned}
 use Rattle.planner.specs.Meaning.{LinkParts, FirstPlan}
 use Rattle.planner.specs.Laws.Meaning.{plan-refuses, plan-first, plan-numbers}
 use Rattle.mesh.specs.declared.Plan.{Plan}
@@ -44,9 +44,10 @@ use Rattle.formed.specs.Laws.Forming.{start-formed, refused-start}
 use Rattle.recovery.specs.Formed.{Formed, recordAnswer}
 use Rattle.recovery.specs.Laws.Forming.{record-formed, refused-record}
 use Rattle.recovery.specs.Calls.{digraph, started, routed, routedAs}
+use Rattle.recovery.specs.Calls as recovery
 use Rattle.history.specs.History.{Call, reply, next, refused, refusedAt}
 use Rattle.history.specs.Log.{deliveriesOn}
-use Rattle.history.specs.Demand.{Sized, CallFollows, Demand3, AtRest, Routes, Measured, hadOn, ended, log, Undisturbed, RunsAlone, RunsOut}
+use Rattle.history.specs.Demand.{Sized, CallFollows, Demand3, AtRest, Routes, Measured, hadOn, ended, log, offeredOn, Undisturbed, RunsAlone, RunsOut}
 use Rattle.history.specs.Laws.Refused.{refused-keeps, record-refusal-answers}
 use Rattle.history.specs.Laws.Ruled.{call-as-ruled}
 use Rattle.history.specs.Laws.Recovered.{demand-3}
@@ -54,7 +55,7 @@ use Rattle.history.specs.Laws.Routed.{demand-route}
 use Rattle.history.specs.Laws.Measured.{demand-length}
 use Rattle.history.specs.Laws.Undisturbed.{undisturbed, runs-alone}
 use Rattle.history.specs.Laws.Unhindered.{runs-out}
-use Rattle.history.specs.Laws.Counted.{had-made}
+use Rattle.history.specs.Laws.Counted.{had-made, made-exactly, made-most}
 use Rattle.ducts.specs.Sharing.{sharing, shared}
 use Rattle.ducts.specs.Sharing as ducts
 use Rattle.ducts.specs.Meaning.{Lists}
@@ -93,10 +94,21 @@ use Rattle.collection.specs.Meaning.{Connected}
 use Rattle.collection.specs.Meaning as collectionQuery
 use Rattle.collection.specs.Laws.Folded.{collects}
 use Rattle.collection.specs.Laws.Query as asking
+use Rattle.heaviest.specs.declared.Asked.the-variants.{Middles}
+use Rattle.heaviest.specs.declared.Asked.the-variants as drills
+use Rattle.heaviest.specs.Drill.{drill, drillOf}
+use Rattle.heaviest.specs.Input.{Names, asked}
+use Rattle.heaviest.specs.Laws.Input.{asked-names, refused-names}
+use Rattle.heaviest.specs.Laws.Drill.{drill-of, drill-accepted, drill-in-range}
+use Rattle.drilled.specs.Shape.{alternating}
+use Rattle.drilled.specs.Laws.Plan.{drill-planned}
+use Rattle.drilled.specs.Laws.Calls.{drill-calls}
 use Rattle.guarantees.specs.DuctBench as ductRows
 use Rattle.guarantees.specs.Laws.DuctsComputed as ductsComputed
 use Rattle.guarantees.specs.CollectionBench as collectionRows
 use Rattle.guarantees.specs.Laws.CollectionComputed as collectionComputed
+use Rattle.guarantees.specs.DrillBench as drillRows
+use Rattle.guarantees.specs.Laws.DrillComputed as drillComputed
 use Rattle.guarantees.specs.Laws.Computed.{row-holds}
 
 -- ---- the mesh checks (contract: crates/mesh/src/lib.rt, `check`)
@@ -435,6 +447,60 @@ collection-refused = asking.refusal-told
 -- document 000's route, with the path to one of its nodes, the same mesh from another root, two nodes with a link, and each refusal
 pub collection-bench : collectionRows.Holds
 collection-bench = collectionComputed.computed
+
+-- ---- 02, request 6: how many deliveries, over every list of calls
+
+-- under a cut, with nothing under way on a wavelength after any list of calls, whatever the other does: it has had exactly 2 × P - Q deliveries of its own since
+-- the cut, where P counts the links that the rules ever offered on it since, and Q the links that the route query on it gives, by `demand-three-route` the one
+-- simple path
+pub deliveries-exact : (m : Mesh) → InRange m → planned m .answer ≡ Accepted → (calls : List Call) (k : ℕ)
+    → log m calls .cut ≡ Link k → (w : Wavelength) → AtRest (ended m calls) w
+    → deliveriesOn w (log m calls) + length (recovery.routeOf (ended m calls) w) ≡ 2 * offeredOn m calls w
+deliveries-exact m r = made-exactly m (r .entries)
+
+-- and at any time, at rest or not, it has had at most 2 × L - 4: no other link joins the ends of the cut one, so that every route has two links or more
+pub deliveries-most : (m : Mesh) → InRange m → planned m .answer ≡ Accepted → (calls : List Call) (k : ℕ)
+    → log m calls .cut ≡ Link k → (w : Wavelength) → deliveriesOn w (log m calls) + 4 ≤ 2 * m .count
+deliveries-most m r = made-most m (r .entries)
+
+-- ---- 02, request 6: the heaviest drill (contracts: crates/heaviest/src/lib.rt, `read` and `drill`)
+
+-- an input asks for m exactly where it is m, from 1 to 62, in decimal without leading zeros, with or without one line feed after it; any other is refused
+pub drill-asked : (s : List ℕ) (m : ℕ) → (asked s ≡ Middles m) ↔ Names s m
+drill-asked = asked-names
+
+pub drill-refused : (s : List ℕ) → (asked s ≡ drills.Refused) ↔ ((m : ℕ) → ¬ Names s m)
+drill-refused = refused-names
+
+-- for every m from 1 to 62:
+module _ (m : ℕ) (some : 1 ≤ m) (most : m ≤ 62) where
+  -- what the library makes is the drill, whose fields are in range and which passes the mesh checks
+  pub drill-checked : (drillOf m ≡ drill m) × InRange (drill m) × (meshAnswer (drill m) ≡ Accepted)
+  drill-checked = (drill-of m some most, drill-in-range m most, drill-accepted m most)
+
+  -- so its book is written wherever there is room for the longest one
+  pub drill-book : (out : List ℕ) → longestBook ≤ length out
+      → (encoded (drill m) (length out) ≡ record { length = length (bookOf (drill m)); answer = Accepted })
+      × (outputAfter (drill m) out ≡ bookOf (drill m) ++ drop (length (bookOf (drill m))) out)
+  drill-book out room = encoded-done (drill m) out (drill-accepted m most) (omega (arith, book-most (drill m) (drill-accepted m most)))
+
+  -- it is planned, with the directions 0 1 0 1 .. 0
+  pub drill-plan : planned (drill m) ≡ record { plan = padded (alternating (2 * m + 1)); answer = Accepted }
+  drill-plan = drill-planned m some most
+
+  -- while the cut of its last link stands, after any list of calls: a wavelength is at rest exactly after 4 × m - 2 deliveries of its own, on wavelength 1 and on
+  -- wavelength 2, and by `run-unhindered` it comes to rest
+  pub drill-deliveries : (calls : List Call) → log (drill m) calls .cut ≡ Link (2 * m) → (w : Wavelength)
+      → AtRest (ended (drill m) calls) w ↔ (deliveriesOn w (log (drill m) calls) ≡ 4 * m - 2)
+  drill-deliveries = drill-calls m some most
+
+  -- that is 2 × L - 4: the bound of `deliveries-most` is reached
+  pub drill-reaches : 4 * m - 2 ≡ 2 * drill m .count - 4
+  drill-reaches = omega arith
+
+-- P1's book and that of two middle nodes, and inputs of each kind
+pub drill-bench : drillRows.Holds
+drill-bench = drillComputed.computed
 
 -- ---- 01's bench examples marked P
 

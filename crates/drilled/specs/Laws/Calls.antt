@@ -1,9 +1,10 @@
 -- The heaviest drill after every list of calls, where the cut of its last link stands: a wavelength is at rest exactly after 4 × m - 2 deliveries on it, and
 -- its route has two links then. Each flood has made progress by its own deliveries, so that the flood's law speaks of it. Assumes nothing.
-use Prim.Native.Nat.{ℕ, _+_, _*_, _<_, _≤_}
+use Prim.Native.Nat.{ℕ, _*_, _-_, _<_, _≤_}
 use mathlib.Core.Path.{_≡_, refl, sym, ap, subst}
 use mathlib.Core.Logic.{_↔_}
 use mathlib.Core.List.{List}
+use native.Mathlib.Omega.{arith}
 use lib.ListN.{length}
 use Rattle.wavelengths.specs.declared.Wavelength.{Wavelength}
 use Rattle.wavelengths.specs.Merge.{Turn, linksOn}
@@ -38,7 +39,7 @@ module _ (m : ℕ) (some : 0 < m) (most : m ≤ 62) where
 
   -- wavelength w is at rest exactly where 4 × m - 2 of the deliveries ts are on it, and its route has two links then
   abbrev Rests : Session → List Turn → Wavelength → Type 0
-  Rests s ts w = (AtRest s w ↔ (length (linksOn w ts) + 2 ≡ 4 * m)) × (AtRest s w → length (routeOf s w) ≡ 2)
+  Rests s ts w = (AtRest s w ↔ (length (linksOn w ts) ≡ 4 * m - 2)) × (AtRest s w → length (routeOf s w) ≡ 2)
 
   cut-rests : (ts : List Turn) → Since (drill m) p (2 * m) ts → (w : Wavelength) → Rests (cutAt (2 * m) ts) ts w
   cut-rests ts q w =
@@ -46,7 +47,7 @@ module _ (m : ℕ) (some : 0 < m) (most : m ≤ 62) where
       let D = drill-backup m some most w in
       let f = progress (drill m) accepted (drill-sized m most) q w in
       let (out, into) = rest-drill m D (sound (drill m) accepted (drill-sized m most) q w) f in (
-        (λ r. out (rest-seen s w r), λ e. seen-rest s w (into e)),
+        (λ r. omega (arith, out (rest-seen s w r)), λ e. seen-rest s w (into (omega arith))),
         λ r. path-two m D (routeOf s w) (route-found (drill m) (drill-sized m most) accepted q w r .path),
       )
 
@@ -57,7 +58,7 @@ module _ (m : ℕ) (some : 0 < m) (most : m ≤ 62) where
         (λ k ts q e. subst (λ (k : ℕ). Since (drill m) p k ts → Rests (cutAt k ts) ts w) (sym e) (λ q. cut-rests ts q w) q)
         (ended-kept (drill m) accepted (drill-sized m most) calls) (2 * m) stands refl
 
-    pub drill-calls : AtRest (ended (drill m) calls) w ↔ (deliveriesOn w (log (drill m) calls) + 2 ≡ 4 * m)
+    pub drill-calls : AtRest (ended (drill m) calls) w ↔ (deliveriesOn w (log (drill m) calls) ≡ 4 * m - 2)
     drill-calls = rests .0
 
     pub drill-route : AtRest (ended (drill m) calls) w → length (routeOf (ended (drill m) calls) w) ≡ 2

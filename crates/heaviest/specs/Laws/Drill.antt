@@ -14,8 +14,14 @@ use Rattle.mesh.specs.declared.Answer.the-variants.{Accepted}
 use Rattle.mesh.specs.Mesh.{zeroLink, meshAnswer}
 use Rattle.mesh.specs.WellFormed.{link, Joins, Rises, WellFormed, LinkInRange, InRange}
 use Rattle.mesh.specs.Laws.Checked.{accepts}
-use Rattle.heaviest.specs.Drill.{span, spansAt, spansBelow, drillLinks, drill}
+use Rattle.heaviest.specs.Drill.{span, spansAt, spansBelow, drillLinks, drill, drillOf}
+use Rattle.heaviest.specs.Laws.Tests.{size-says}
 use Rattle.heaviest.specs.Laws.Spans.{spans-length, links-length}
+
+-- what the library makes for a size
+pub drill-of : (m : ℕ) → 1 ≤ m → m ≤ 62 → drillOf m ≡ drill m
+unfolding drillOf
+drill-of m some most = rw (size-says m .1 (some, most))
 
 -- ---- link numbers
 
