@@ -46,8 +46,10 @@ use Rattle.recovery.specs.Laws.Forming.{record-formed, refused-record}
 use Rattle.recovery.specs.Calls.{digraph, started, routed, routedAs}
 use Rattle.recovery.specs.Calls as recovery
 use Rattle.history.specs.History.{Call, reply, next, refused, refusedAt}
-use Rattle.history.specs.Log.{deliveriesOn}
-use Rattle.history.specs.Demand.{Sized, CallFollows, Demand3, AtRest, Routes, Measured, hadOn, ended, log, offeredOn, Undisturbed, RunsAlone, RunsOut}
+use Rattle.history.specs.Rules.{start}
+use Rattle.history.specs.Log.{madeOn, deliveriesOn}
+use Rattle.history.specs.Offered.{noneOffered, offered}
+use Rattle.history.specs.Demand.{Sized, CallFollows, Demand3, AtRest, Routes, Measured, hadOn, digraphOn, ended, log, offeredOn, EverOffered, Undisturbed, RunsAlone, RunsOut}
 use Rattle.history.specs.Laws.Refused.{refused-keeps, record-refusal-answers}
 use Rattle.history.specs.Laws.Ruled.{call-as-ruled}
 use Rattle.history.specs.Laws.Recovered.{demand-3}
@@ -56,6 +58,7 @@ use Rattle.history.specs.Laws.Measured.{demand-length}
 use Rattle.history.specs.Laws.Undisturbed.{undisturbed, runs-alone}
 use Rattle.history.specs.Laws.Unhindered.{runs-out}
 use Rattle.history.specs.Laws.Counted.{had-made, made-exactly, made-most}
+use Rattle.history.specs.Laws.EverOffered.{offered-ever}
 use Rattle.ducts.specs.Sharing.{sharing, shared}
 use Rattle.ducts.specs.Sharing as ducts
 use Rattle.ducts.specs.Meaning.{Lists}
@@ -458,7 +461,13 @@ pub deliveries-exact : (m : Mesh) → InRange m → planned m .answer ≡ Accept
     → deliveriesOn w (log m calls) + length (recovery.routeOf (ended m calls) w) ≡ 2 * offeredOn m calls w
 deliveries-exact m r = made-exactly m (r .entries)
 
--- and at any time, at rest or not, it has had at most 2 × L - 4: no other link joins the ends of the cut one, so that every route has two links or more
+-- a link is counted in P exactly where it is offered after the cut and some first ones of that wavelength's own deliveries since, made alone
+pub deliveries-offered : (m : Mesh) → InRange m → planned m .answer ≡ Accepted → (calls : List Call) (k : ℕ)
+    → log m calls .cut ≡ Link k → (w : Wavelength) (i : ℕ)
+    → (offered (digraphOn m) calls start noneOffered w i ≡ true) ↔ EverOffered m w k (madeOn w (log m calls)) i
+deliveries-offered m r = offered-ever m (r .entries)
+
+-- at any time, at rest or not, it has had at most 2 × L - 4: no other link joins the ends of the cut one, so that every route has two links or more
 pub deliveries-most : (m : Mesh) → InRange m → planned m .answer ≡ Accepted → (calls : List Call) (k : ℕ)
     → log m calls .cut ≡ Link k → (w : Wavelength) → deliveriesOn w (log m calls) + 4 ≤ 2 * m .count
 deliveries-most m r = made-most m (r .entries)

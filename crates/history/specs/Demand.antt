@@ -172,6 +172,13 @@ abbrev pub callsOn : Wavelength → Cut → List ℕ → List Call
 callsOn w (Link k) js = cut by-value k ∷ map (λ (j : ℕ). deliver by-value j (numberOf w)) js
 callsOn w Nothing js = []
 
+-- link i is offered on wavelength w at some time while the deliveries js are made there, alone, under the cut of link k: after the earlier of them
+pub record EverOffered (m : Mesh) (w : Wavelength) (k : ℕ) (js : List ℕ) (i : ℕ) : Type 0 where
+  pub earlier : List ℕ
+  pub later : List ℕ
+  pub split : js ≡ earlier ++ later
+  pub offered : stateOn (ended m (callsOn w (Link k) earlier)) w i ≡ 1
+
 module _ (m : Mesh) (calls : List Call) (w : Wavelength) where
   -- the list on wavelength w alone: the cut that stands and, for each delivery made on w since, by a delivery call or by a run, a delivery call
   abbrev pub alone : List Call

@@ -1,5 +1,6 @@
 pub mod Backup
 pub mod Counted
+pub mod EverOffered
 pub mod Kept
 pub mod Recovered
 pub mod Refused

@@ -137,11 +137,14 @@ module _ (m : Mesh) (good : planned m .answer ≡ Accepted) (sized : length (m .
   fresh-marks w i = rw (fresh-on w 256 64, replicate-at {A = ℕ} 256 0 i)
 
   -- right after a cut no state is above 1
-  cut-marks : (k : ℕ) → Marks (begun m plan k) (andAt (seen (cutSession m plan k (begun m plan k))) noneOffered)
-  cut-marks k w i =
+  pub begun-few : (k : ℕ) (w : Wavelength) (i : ℕ) → at (on w (begun m plan k) .states) i ≤ 1
+  begun-few k w i =
       let whole = passes m (plan-checked m good) in
-      let few = begin-at-most-1 (graphs arcs (Link k) k w) (lost arcs (Link k) k w) (blank m plan (whole .count-most) (whole .nodes-most) w) i in
-      rw (on-begin (kept.graphs m plan) (kept.lost m plan k) w (freshOnEach 256 64)) (marked-next 0 _ (omega arith) (λ z. few))
+      rw (on-begin (kept.graphs m plan) (kept.lost m plan k) w (freshOnEach 256 64))
+      (begin-at-most-1 (kept.graphs m plan w) (kept.lost m plan k w) (blank m plan (whole .count-most) (whole .nodes-most) w) i)
+
+  cut-marks : (k : ℕ) → Marks (begun m plan k) (andAt (seen (cutSession m plan k (begun m plan k))) noneOffered)
+  cut-marks k w i = marked-next 0 _ (omega arith) (λ z. begun-few k w i)
 
   -- further deliveries under a cut
   since-marks : {k : ℕ} {ts : List Turn} → Since m plan k ts → (us : List Turn) → let p = played m plan k ts in
