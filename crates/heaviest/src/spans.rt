@@ -26,13 +26,14 @@ pub(crate) fn spans(m: u8) -> [Link; 256]
         length: 0,
         pair: 0,
     }; 256];
+    let far = m + 1;
     let mut i: u8 = 0;
     while i < m {
         let k = 2 * (i as usize);
         links[k] = span(i, m);
-        links[k + 1] = span(i, m + 1);
+        links[k + 1] = span(i, far);
         i += 1;
     }
-    links[2 * (m as usize)] = span(m, m + 1);
+    links[2 * (m as usize)] = span(m, far);
     links
 }

@@ -2,8 +2,8 @@
 -- nothing.
 use Prim.Native.Nat.{ℕ, suc, _+_, _*_, _-_, _/_, _%_, _≤_, _<_}
 use mathlib.Core.Path.{_≡_, refl, sym, _∙_, ap}
-use mathlib.Core.Logic.{_⊎_, inl, inr, ⊎-elim, _↔_}
-use mathlib.Core.Bool.{Bool, true, false, cond, not, _&&_}
+use mathlib.Core.Logic.{_≢_, _⊎_, inl, inr, ⊎-elim, _↔_}
+use mathlib.Core.Bool.{Bool, true, false, cond}
 use mathlib.Core.List.{List, [], _∷_, _++_}
 use native.Mathlib.Omega.{arith}
 use native.Mathlib.Decide.{decLt}
@@ -30,13 +30,13 @@ one-decimal a = branch (λ (n : ℕ). 1 ≤ n → decimal n ≡ a ∷ [])
 
 two-decimal : (a b : ℕ) → 1 ≤ twoDigits a b → decimal (twoDigits a b) ≡ a ∷ (b ∷ [])
 two-decimal a b = branch (λ (n : ℕ). 1 ≤ n → decimal n ≡ a ∷ (b ∷ []))
-    (isDigit a && isDigit b && not (eqb a 48))
+    _
     (λ t h.
-    let ((x, y), z) = and-says (and-says (digit-says a) (digit-says b)) (not-says (eqb a 48)) .0 t in
+    let ((x, y), z) = and-says (and-says (digit-says a) (digit-says b)) (not-says _) .0 t in
     let n : ℕ = 10 * (a - 48) + (b - 48) in
     let e : 48 + n / 10 ≡ a = omega arith in
     let f : 48 + n % 10 ≡ b = omega arith in
-    let g = eqb-false a 48 z in
+    let g : a ≢ 48 = eqb-false a 48 z in
     rw (le-ltb n 10 (omega arith), e, f))
     (λ t h. absurd (omega arith))
 

@@ -8,18 +8,22 @@ use Rattle.heaviest.proofs.spans.spans.Statement.{statement}
 use Rattle.heaviest.proofs.spans.spans.Tie as tie
 
 abbrev Inv-loop : tie.InvT-loop
-Inv-loop m links₀ i₀ links i = (i ≤ m) × (links ≡ stored m i)
+Inv-loop m links₀ far i₀ links i = (i ≤ m) × (links ≡ stored m i)
 
 abbrev μ-loop : tie.MeasureT-loop
-μ-loop m links₀ i₀ links i = m - i
+μ-loop m links₀ far i₀ links i = m - i
+
+-- there are at most 62 middle nodes
+few : (c : tie.Start Inv-loop μ-loop) → c .args .m ≤ 62
+few c = c .pre
+
+add-far : tie.Need-add-far Inv-loop μ-loop
+add-far c = omega (arith, few c)
 
 loop-holds : tie.Need-loop-holds Inv-loop μ-loop
 loop-holds c = (omega arith, sym (stored-none (c .args .m)))
 
--- there are at most 62 middle nodes, and in the loop i is one of them
-few : (c : tie.Start Inv-loop μ-loop) → c .args .m ≤ 62
-few c = c .pre
-
+-- in the loop i is one of them
 middle : (c : tie.In-loop Inv-loop μ-loop) → (c .before .loop .i < c .before .before .args .m) × (c .before .before .args .m ≤ 62)
 middle c = (c .loop-test .taken, few (c .before .before))
 
@@ -37,9 +41,6 @@ mul-links c = omega (arith, middle (c .before))
 
 array-set-from-links : tie.Need-array-set-from-links Inv-loop μ-loop
 array-set-from-links c = omega (arith, middle (c .before))
-
-add-span : tie.Need-add-span Inv-loop μ-loop
-add-span c = omega (arith, middle (c .before))
 
 span-requires-2 : tie.Need-span-requires-2 Inv-loop μ-loop
 span-requires-2 c κs = search needs
@@ -66,9 +67,6 @@ loop-again c =
     let i = t .before .loop .i in
     (omega (arith, t .loop-test .taken), rw (c .before .span .ensures, c .span2 .ensures, t .before .loop .inv .1) (stored-next m i))
 
-add-span-2 : tie.Need-add-span-2 Inv-loop μ-loop
-add-span-2 c = omega (arith, few (c .before .before))
-
 span-requires-3 : tie.Need-span-requires-3 Inv-loop μ-loop
 span-requires-3 c κs = search needs
 
@@ -94,13 +92,13 @@ spans-spec =
     (tie.spec
     Inv-loop
     μ-loop
+    add-far
     loop-holds
     cast-k
     mul-k
     span-requires
     mul-links
     array-set-from-links
-    add-span
     span-requires-2
     add-links
     mul-links-2
@@ -108,7 +106,6 @@ spans-spec =
     add-i
     loop-less
     loop-again
-    add-span-2
     span-requires-3
     mul-links-3
     mul-links-4
