@@ -3,6 +3,7 @@ mod book;
 mod calls;
 mod case;
 mod collecting;
+mod drills;
 mod old_session;
 mod planning;
 mod record;

@@ -12,7 +12,11 @@ use streams::print::line;
 pub(crate) fn run_mesh(case: u64) {
     line(b"record-of-mesh", case);
     let room = next_two() as usize;
-    let m = read_record();
+    show_record(read_record(), room);
+}
+
+// Checks m, encodes it into `room` bytes, plans it, and starts on it and its plan.
+pub(crate) fn show_record(m: Mesh, room: usize) {
     show_written(m, room);
     let plan = show_plan(m);
     show_digest(started(m, plan));
