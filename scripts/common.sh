@@ -79,6 +79,14 @@ explain() {
     esac
 }
 
+# Keeps the lines of a script for users in a file; where it fails, shows them beside what it says, and ends with its status.
+keep() {
+    local lines=$1 status=0
+    shift
+    "$@" >"$lines" || status=$?
+    [ "$status" -eq 0 ] || { cat "$lines" >&2 && exit "$status"; }
+}
+
 # Explains the refusal that a program's lines end with and ends the script with status 1; where they end with none it does nothing.
 end_refused() {
     local lines=$1 mesh=$2 number place
