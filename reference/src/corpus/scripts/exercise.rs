@@ -1,6 +1,7 @@
-//! The scripts of docs/EXERCISE.md: on the mesh of P5, and on the same links
-//! with lengths.
+//! The scripts of docs/EXERCISE.md: on the mesh of P5, on the same links with
+//! lengths, and on the heaviest drill with two middle nodes.
 
+use super::super::meshes::plain;
 use super::grounds::p5;
 use crate::book::bytes_of;
 use crate::mesh::Mesh;
@@ -8,9 +9,10 @@ use crate::script::{calls_of, Origin, Script};
 
 const PLAIN: &str = "examples/four-node.book";
 const MEASURED: &str = "examples/four-node-measured.book";
+const DRILL: &str = "examples/drill-2.book";
 
 /// The book and the calls of each part, as its command names them.
-const PARTS: [(&str, &str); 14] = [
+const PARTS: [(&str, &str); 16] = [
     (PLAIN, "status 1 1 cut 4 status 1 1"),
     (
         PLAIN,
@@ -50,6 +52,16 @@ const PARTS: [(&str, &str); 14] = [
         MEASURED,
         "cut 4 run 2 status 2 1 status 2 2 run 1 status 2 2 run 100 route 1 route 2",
     ),
+    (
+        DRILL,
+        "cut 4 status 2 1 deliver 0 1 deliver 1 1 status 2 1 deliver 2 1 deliver 3 1 \
+         status 3 1 deliver 3 1 status 2 1 deliver 2 1 status 2 1 route 1",
+    ),
+    (
+        DRILL,
+        "cut 4 deliver 2 1 deliver 0 1 status 3 1 deliver 3 1 deliver 1 1 deliver 1 1 \
+         deliver 0 1 status 0 1 route 1",
+    ),
     (PLAIN, "cut 4 deliver 1 1 deliver 3 1 status 0 1 status 2 1"),
     (PLAIN, "cut 2 status 4 1 run 100 route 1"),
     (MEASURED, "cut 3 run 100 status 3 1 route 1"),
@@ -72,6 +84,7 @@ fn script(book: &str, calls: &str) -> Script {
 fn mesh(book: &str) -> Mesh {
     match book {
         MEASURED => measured(),
+        DRILL => plain(4, &[(0, 2), (0, 3), (1, 2), (1, 3), (2, 3)]),
         _ => p5(),
     }
 }
@@ -108,7 +121,7 @@ mod tests {
 
     #[test]
     fn the_books_are_those_of_the_examples() {
-        for book in [PLAIN, MEASURED] {
+        for book in [PLAIN, MEASURED, DRILL] {
             assert_eq!(fs::read(file(book)).unwrap(), bytes_of(&mesh(book)));
         }
     }
