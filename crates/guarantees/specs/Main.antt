@@ -57,7 +57,7 @@ use Rattle.history.specs.Laws.Routed.{demand-route}
 use Rattle.history.specs.Laws.Measured.{demand-length}
 use Rattle.history.specs.Laws.Undisturbed.{undisturbed, runs-alone}
 use Rattle.history.specs.Laws.Unhindered.{runs-out}
-use Rattle.history.specs.Laws.Counted.{had-made, made-exactly, made-most}
+use Rattle.history.specs.Laws.Counted.{had-made, made-exactly, made-most, offered-same}
 use Rattle.history.specs.Laws.EverOffered.{offered-ever}
 use Rattle.ducts.specs.Sharing.{sharing, shared}
 use Rattle.ducts.specs.Sharing as ducts
@@ -466,6 +466,12 @@ pub deliveries-offered : (m : Mesh) → InRange m → planned m .answer ≡ Acce
     → log m calls .cut ≡ Link k → (w : Wavelength) (i : ℕ)
     → (offered (digraphOn m) calls start noneOffered w i ≡ true) ↔ EverOffered m w k (madeOn w (log m calls)) i
 deliveries-offered m r = offered-ever m (r .entries)
+
+-- P is the same at every rest under the same cut, in whatever order the deliveries were made; Q need not be
+pub deliveries-same : (m : Mesh) → InRange m → planned m .answer ≡ Accepted → (calls others : List Call) (k : ℕ)
+    → log m calls .cut ≡ Link k → log m others .cut ≡ Link k → (w : Wavelength) → AtRest (ended m calls) w → AtRest (ended m others) w
+    → offeredOn m calls w ≡ offeredOn m others w
+deliveries-same m r = offered-same m (r .entries)
 
 -- at any time, at rest or not, it has had at most 2 × L - 4: no other link joins the ends of the cut one, so that every route has two links or more
 pub deliveries-most : (m : Mesh) → InRange m → planned m .answer ≡ Accepted → (calls : List Call) (k : ℕ)

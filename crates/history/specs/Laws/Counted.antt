@@ -10,7 +10,11 @@ use lib.Dec.{eqb}
 use lib.ListN.{length}
 use Rattle.scan.specs.Entry.{at}
 use Rattle.scan.specs.Total.{bit, count, total-same}
-use Rattle.flood.specs.Machine.{offeredLinks}
+use Rattle.flood.specs.declared.Flood.{Flood}
+use Rattle.flood.specs.Digraph as failures
+use Rattle.flood.specs.Machine.{atRest, offeredLinks}
+use Rattle.flood.specs.Laws.Progress.{Progress}
+use Rattle.flood.specs.Laws.Bound.{rest-offered-same}
 use Rattle.flood.specs.Laws.Route.{rest-exactly}
 use Rattle.flood.specs.Laws.Cut.{cut-made-4}
 use Rattle.wavelengths.specs.declared.Wavelength.{Wavelength}
@@ -62,6 +66,10 @@ module _ {m : Mesh} (W : WellFormed m) (p : Plan) {k : ℕ} (k< : k < m .count) 
 
 -- ---- after any list of calls, under the cut of link k
 
+-- a flood that has come to rest by deliveries
+abbrev Rested : Mesh → ℕ → Wavelength → Flood → Type 0
+Rested m k w f = let g = backupOn w m (planned m .plan) in (n : ℕ) × Progress g (failures.cut g k) n f × (atRest g f ≡ true)
+
 module _ (m : Mesh) (sized : length (m .links) ≡ 256) (good : planned m .answer ≡ Accepted) (calls : List Call) where
   -- by the states
   pub had-made : (k : ℕ) → log m calls .cut ≡ Link k → (w : Wavelength) → hadOn (ended m calls) w ≡ deliveriesOn w (log m calls)
@@ -83,6 +91,13 @@ module _ (m : Mesh) (sized : length (m .links) ≡ 256) (good : planned m .answe
       (λ k ts q w r. rest-exactly _ _ (progress m good sized q w) (rest-seen (cutSession m (planned m .plan) k (played m (planned m .plan) k ts)) w r) (route-found m sized good q w r))
       (ended-kept m good sized calls) k e w r)
 
+  -- the flood at rest
+  rested : (k : ℕ) → log m calls .cut ≡ Link k → (w : Wavelength) → AtRest (ended m calls) w → Rested m k w (on w (floods (ended m calls)))
+  rested =
+      kept-cut m (planned m .plan) (λ s k ts. (w : Wavelength) → AtRest s w → Rested m k w (on w (floods s)))
+      (λ k ts q w r. (length (linksOn w ts), progress m good sized q w, rest-seen (cutSession m (planned m .plan) k (played m (planned m .plan) k ts)) w r))
+      (ended-kept m good sized calls)
+
   -- never more than 2 × L - 4
   pub made-most : (k : ℕ) → log m calls .cut ≡ Link k → (w : Wavelength) → deliveriesOn w (log m calls) + 4 ≤ 2 * m .count
   made-most =
@@ -92,3 +107,12 @@ module _ (m : Mesh) (sized : length (m .links) ≡ 256) (good : planned m .answe
       cut-made-4 (q .link) (progress m good sized q w) (sound m good sized q w)
       (none-straight W (planned m .plan) (q .link) (only-link W k (q .link)) w))
       (ended-kept m good sized calls)
+
+-- in every order the same links are offered
+pub offered-same : (m : Mesh) → length (m .links) ≡ 256 → planned m .answer ≡ Accepted → (calls others : List Call) (k : ℕ)
+    → log m calls .cut ≡ Link k → log m others .cut ≡ Link k → (w : Wavelength) → AtRest (ended m calls) w → AtRest (ended m others) w
+    → offeredOn m calls w ≡ offeredOn m others w
+offered-same m sized good calls others k e f w r q =
+    let (_, one, rest) = rested m sized good calls k e w r in
+    let (_, other, rest′) = rested m sized good others k f w q in
+    rw (offered-count m sized good calls w, offered-count m sized good others w) (rest-offered-same _ _ one other rest rest′)
