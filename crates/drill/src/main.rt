@@ -1,6 +1,8 @@
 // Reads a number of middle nodes from standard input and writes the book of the heaviest drill with so many (02, request 6): its bytes and nothing
 // else. Another input gives the line `refused`. An input that cannot be read is neither.
-use heaviest::Asked;
+mod book;
+
+use book::write_drill;
 use libc::STDERR_FILENO;
 use streams::held::write;
 use streams::input::read_input;
@@ -17,19 +19,16 @@ fn main() {
         return;
     }
     let length = came.count;
-    answer(heaviest::read(&input[..length]));
+    answer(&input[..length]);
 }
 
-fn answer(asked: Asked) {
-    match asked {
-        Asked::Middles(m) => write_book(m),
-        Asked::Refused => word(b"refused\n"),
-    }
-}
-
-// The book of the drill with m middle nodes. 4,096 bytes have room for any book.
-fn write_book(m: u8) {
+// 4,096 bytes have room for any book, and every book has some bytes.
+fn answer(input: &[u8]) {
     let mut book = io::buffer();
-    let written = codec::encode(heaviest::drill(m), &mut book);
-    write(&book, written.length);
+    let length = write_drill(input, &mut book);
+    if length == 0 {
+        word(b"refused\n");
+        return;
+    }
+    write(&book, length);
 }

@@ -23,6 +23,13 @@ pub record Names (s : List ℕ) (m : ℕ) : Type 0 where
   pub most : m ≤ 62
   pub written : (s ≡ decimal m) ⊎ (s ≡ decimal m ++ (10 ∷ []))
 
+-- ---- what it asks for
+
+-- the number of middle nodes; no drill has 0
+abbrev pub middlesOf : Asked → ℕ
+middlesOf (Middles m) = m
+middlesOf Refused = 0
+
 -- ---- how it is read
 
 -- how many bytes stand before one line feed at the end

@@ -1,6 +1,6 @@
 // The heaviest drill (02, request 6): its number of middle nodes read from an input, and its mesh.
 ghost use mathlib.Core.Path.{_≡_};
-ghost use Rattle.heaviest.specs.Input.{asked};
+ghost use Rattle.heaviest.specs.Input.{middlesOf, asked};
 ghost use Rattle.heaviest.specs.Drill.{drillOf};
 
 mod digits;
@@ -37,6 +37,16 @@ pub fn read(input: &[u8]) -> Asked
         return Asked::Middles(m);
     }
     Asked::Refused
+}
+
+// How many middle nodes an input asked for; 0 where it was refused.
+pub fn middles(asked: Asked) -> u8
+    ensures { λ r. ⌜ r ≡ middlesOf asked ⌝ }
+{
+    match asked {
+        Asked::Middles(m) => m,
+        Asked::Refused => 0,
+    }
 }
 
 // 02's mesh: middle nodes 0 to m - 1, each linked to nodes m and m + 1, and a link between these two. For any other number than 1 to 62 it is
