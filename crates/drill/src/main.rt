@@ -1,5 +1,5 @@
 // Reads a number of middle nodes from standard input and writes the book of the heaviest drill with so many (02, request 6): its bytes and nothing
-// else. Another input gives the line `refused`. An input that cannot be read is neither.
+// else. Another input gives the line `refused`. Where the input cannot be read, it says so on stderr alone.
 mod book;
 
 use book::write_drill;
@@ -8,7 +8,8 @@ use streams::held::write;
 use streams::input::read_input;
 use streams::print::word;
 
-// One byte more than the longest good input, two digits and a line feed: an input that goes on after these is then not taken for them.
+// One byte more than the longest good input, two digits and a line feed: what stands past them changes nothing (`drill-long-input` in
+// crates/guarantees/specs/Main.antt).
 const MOST_INPUT: usize = 4;
 
 fn main() {

@@ -12,7 +12,7 @@ use Rattle.scan.specs.Total.{bit, count}
 use Rattle.scan.specs.Bytes.{AreBytes}
 use Rattle.mesh.specs.declared.Mesh.{Mesh}
 use Rattle.mesh.specs.declared.Answer.the-variants.{Accepted, Refused}
-use Rattle.mesh.specs.Mesh.{meshAnswer}
+use Rattle.mesh.specs.Mesh.{zeroMesh, meshAnswer}
 use Rattle.mesh.specs.WellFormed.{WellFormed, InRange, link, duct, SameEnds}
 use Rattle.mesh.specs.Refusal.{Refusal, previous}
 use Rattle.mesh.specs.Laws.Checked.{checks}
@@ -101,11 +101,11 @@ use Rattle.heaviest.specs.declared.Asked.the-variants.{Middles}
 use Rattle.heaviest.specs.declared.Asked.the-variants as drills
 use Rattle.heaviest.specs.Drill.{drill, drillOf}
 use Rattle.heaviest.specs.Input.{Names, asked}
-use Rattle.heaviest.specs.Laws.Input.{asked-names, refused-names}
-use Rattle.heaviest.specs.Laws.Drill.{drill-of, drill-accepted, drill-in-range}
+use Rattle.heaviest.specs.Laws.Input.{asked-names, refused-names, asked-take}
+use Rattle.heaviest.specs.Laws.Drill.{drill-of, drill-none, drill-accepted, drill-in-range}
 use Rattle.drilled.specs.Shape.{alternating}
 use Rattle.drilled.specs.Laws.Plan.{drill-planned}
-use Rattle.drilled.specs.Laws.Calls.{drill-calls}
+use Rattle.drilled.specs.Laws.Calls.{drill-calls, two-links}
 use Rattle.guarantees.specs.DuctBench as ductRows
 use Rattle.guarantees.specs.Laws.DuctsComputed as ductsComputed
 use Rattle.guarantees.specs.CollectionBench as collectionRows
@@ -467,10 +467,11 @@ pub deliveries-offered : (m : Mesh) → InRange m → planned m .answer ≡ Acce
     → (offered (digraphOn m) calls start noneOffered w i ≡ true) ↔ EverOffered m w k (madeOn w (log m calls)) i
 deliveries-offered m r = offered-ever m (r .entries)
 
--- P is the same at every rest under the same cut, in whatever order the deliveries were made; Q need not be
+-- at every rest under the same cut the same links were ever offered, in whatever order the deliveries were made, so that P is the same; Q need not be
 pub deliveries-same : (m : Mesh) → InRange m → planned m .answer ≡ Accepted → (calls others : List Call) (k : ℕ)
     → log m calls .cut ≡ Link k → log m others .cut ≡ Link k → (w : Wavelength) → AtRest (ended m calls) w → AtRest (ended m others) w
-    → offeredOn m calls w ≡ offeredOn m others w
+    → ((i : ℕ) → i < m .count → offered (digraphOn m) calls start noneOffered w i ≡ offered (digraphOn m) others start noneOffered w i)
+    × (offeredOn m calls w ≡ offeredOn m others w)
 deliveries-same m r = offered-same m (r .entries)
 
 -- at any time, at rest or not, it has had at most 2 × L - 4: no other link joins the ends of the cut one, so that every route has two links or more
@@ -486,6 +487,14 @@ drill-asked = asked-names
 
 pub drill-refused : (s : List ℕ) → (asked s ≡ drills.Refused) ↔ ((m : ℕ) → ¬ Names s m)
 drill-refused = refused-names
+
+-- what stands past the first four bytes of an input changes nothing: the program reads no more
+pub drill-long-input : (s : List ℕ) → asked (take 4 s) ≡ asked s
+drill-long-input = asked-take 4 (omega arith)
+
+-- for any number other than 1 to 62 the library makes the all-zero mesh, which every call refuses
+pub drill-else : (m : ℕ) → (m ≡ 0) ⊎ (62 < m) → drillOf m ≡ zeroMesh
+drill-else = drill-none
 
 -- for every m from 1 to 62:
 module _ (m : ℕ) (some : 1 ≤ m) (most : m ≤ 62) where
@@ -504,16 +513,22 @@ module _ (m : ℕ) (some : 1 ≤ m) (most : m ≤ 62) where
   drill-plan = drill-planned m some most
 
   -- while the cut of its last link stands, after any list of calls: a wavelength is at rest exactly after 4 × m - 2 deliveries of its own, on wavelength 1 and on
-  -- wavelength 2, and by `run-unhindered` it comes to rest
+  -- wavelength 2. It comes to rest in every order: by `demand-three` a further delivery is accepted while a link is under way, and by `deliveries-most` there
+  -- are never more than these
   pub drill-deliveries : (calls : List Call) → log (drill m) calls .cut ≡ Link (2 * m) → (w : Wavelength)
       → AtRest (ended (drill m) calls) w ↔ (deliveriesOn w (log (drill m) calls) ≡ 4 * m - 2)
   drill-deliveries = drill-calls m some most
 
-  -- that is 2 × L - 4: the bound of `deliveries-most` is reached
+  -- its route has two links then
+  pub drill-route : (calls : List Call) → log (drill m) calls .cut ≡ Link (2 * m) → (w : Wavelength)
+      → AtRest (ended (drill m) calls) w → length (recovery.routeOf (ended (drill m) calls) w) ≡ 2
+  drill-route = two-links m some most
+
+  -- 4 × m - 2 is 2 × L - 4: the bound of `deliveries-most` is reached
   pub drill-reaches : 4 * m - 2 ≡ 2 * drill m .count - 4
   drill-reaches = omega arith
 
--- P1's book and that of two middle nodes, and inputs of each kind
+-- P1's book and that of two middle nodes, inputs of each kind, and the links ever offered on the drill with two middle nodes, by the rules
 pub drill-bench : drillRows.Holds
 drill-bench = drillComputed.computed
 

@@ -47,9 +47,9 @@ abbrev pub twoDigits : ℕ → ℕ → ℕ
 twoDigits a b = cond (isDigit a && isDigit b && not (eqb a 48)) (10 * (a - 48) + (b - 48)) 0
 
 -- the number that the bytes write, 0 where they are not one or two such digits
-unfoldable pub numberOf : List ℕ → ℕ
-numberOf s = cond (eqb (length s) 1) (oneDigit (at s 0)) (cond (eqb (length s) 2) (twoDigits (at s 0) (at s 1)) 0)
+unfoldable pub valueOf : List ℕ → ℕ
+valueOf s = cond (eqb (length s) 1) (oneDigit (at s 0)) (cond (eqb (length s) 2) (twoDigits (at s 0) (at s 1)) 0)
 
 -- what the input asks for
 unfoldable pub asked : List ℕ → Asked
-asked s = let m : ℕ = numberOf (take (untilFeed s) s) in cond (isSize m) (Middles m) Refused
+asked s = let m : ℕ = valueOf (take (untilFeed s) s) in cond (isSize m) (Middles m) Refused

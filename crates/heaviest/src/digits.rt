@@ -1,6 +1,6 @@
 // A number of one or two decimal digits, with or without one line feed after it.
 ghost use mathlib.Core.Path.{_≡_};
-ghost use Rattle.heaviest.specs.Input.{numberOf};
+ghost use Rattle.heaviest.specs.Input.{valueOf};
 
 const LINE_FEED: u8 = 10;
 
@@ -49,7 +49,7 @@ fn two_digits(a: u8, b: u8) -> u8
 
 // The number that the bytes write; 0 where they are not one or two such digits.
 pub(crate) fn number(digits: &[u8]) -> u8
-    ensures { λ r. ⌜ r ≡ numberOf (now (digits .entry)) ⌝ }
+    ensures { λ r. ⌜ r ≡ valueOf (now (digits .entry)) ⌝ }
 {
     if digits.len() == 1 {
         return one_digit(digits[0]);

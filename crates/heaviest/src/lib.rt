@@ -11,7 +11,7 @@ use mesh::Mesh;
 // The most middle nodes: with the two outer ones they are 64.
 pub const MOST: u8 = 62;
 
-// What an input asks for: a drill with so many middle nodes, 1 to 62, or nothing that there is.
+// What an input asks for: a drill with so many middle nodes, 1 to 62, or none.
 pub enum Asked {
     Middles(u8),
     Refused,

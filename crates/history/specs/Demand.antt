@@ -18,7 +18,7 @@ use Rattle.wavelengths.specs.declared.Wavelength.{Wavelength}
 use Rattle.wavelengths.specs.Wavelength.{numberOf, on}
 use Rattle.mesh.specs.declared.Mesh.{Mesh}
 use Rattle.mesh.specs.declared.Answer.the-variants.{Accepted}
-use Rattle.mesh.specs.WellFormed.{link, lengths}
+use Rattle.mesh.specs.WellFormed.{lengths}
 use Rattle.planner.specs.Plan.{planned}
 use Rattle.formed.specs.declared.Cut.{Cut}
 use Rattle.formed.specs.declared.Cut.the-variants.{Nothing, Link}
@@ -115,10 +115,6 @@ pub record CallFollows (s : Session) (c : Call) : Type 0 where
   pub answered : reply c s ≡ ruleReply (arcs s) (lengths (s .mesh)) c (seen s)
 
 -- ---- a list of calls
-
--- no other link joins the ends of link k
-abbrev pub OnlyLink : Mesh → ℕ → Type 0
-OnlyLink m k = (i : ℕ) → i < m .count → (link m i .low ≡ link m k .low) × (link m i .high ≡ link m k .high) → i ≡ k
 
 -- the session that a start on m and its plan gives
 abbrev pub startedOn : Mesh → Session

@@ -1,5 +1,5 @@
--- Which links were ever offered since the cut that stands (02, request 6), as the rules make them of a list of calls: a link that is offered after some
--- delivery, also after one within a run, is counted from then on, whatever becomes of it. Read beside `Rules`. Definitions only.
+-- Which links were ever offered since the cut that stands (02, request 6), as the rules make them of a list of calls: a link that is offered right after the cut,
+-- or after a delivery, also one within a run, is counted from then on, whatever becomes of it. Read beside `Rules`. Definitions only.
 use Prim.Native.Nat.{ℕ}
 use mathlib.Core.Bool.{Bool, false, _||_}
 use mathlib.Core.List.{List, [], _∷_}

@@ -61,5 +61,5 @@ module _ (m : ℕ) (some : 0 < m) (most : m ≤ 62) where
     pub drill-calls : AtRest (ended (drill m) calls) w ↔ (deliveriesOn w (log (drill m) calls) ≡ 4 * m - 2)
     drill-calls = rests .0
 
-    pub drill-route : AtRest (ended (drill m) calls) w → length (routeOf (ended (drill m) calls) w) ≡ 2
-    drill-route = rests .1
+    pub two-links : AtRest (ended (drill m) calls) w → length (routeOf (ended (drill m) calls) w) ≡ 2
+    two-links = rests .1

@@ -1,16 +1,16 @@
 -- How many links are offered, and how many deliveries made, in every order: at rest the same links have been offered, and the fewer deliveries are possible
 -- the longer every simple path is, since any flood can be run to rest. Assumes nothing.
 use Prim.Native.Nat.{ℕ, _+_, _*_, _<_, _≤_}
-use mathlib.Core.Path.{_≡_}
-use mathlib.Core.Logic.{_≢_, ⊎-elim}
+use mathlib.Core.Path.{_≡_, ap}
+use mathlib.Core.Logic.{_≢_, ⊎-elim, Iff·rfl}
 use mathlib.Core.Bool.{true, false, not}
 use mathlib.Core.List.{List}
 use native.Mathlib.Omega.{arith}
 use lib.Dec.{ltb}
 use lib.ListN.{length}
-use Rattle.scan.specs.Test.{known, lt-says, not-says}
+use Rattle.scan.specs.Test.{known, lt-says, not-says, says-same}
 use Rattle.scan.specs.Entry.{at}
-use Rattle.scan.specs.Total.{count-mono}
+use Rattle.scan.specs.Total.{bit, count, total-same, count-mono}
 use Rattle.graph.specs.Walk.{Walk}
 use Rattle.flood.specs.Digraph.{Digraph, Failure, usable, Flow, Sound}
 use Rattle.flood.specs.Machine.{Flood, Ran, atRest, run, offeredLinks}
@@ -32,16 +32,21 @@ module _ (g : Digraph) (c : Failure) where
   rest-offers {f} p r i l w y b = lt-says 0 (at (f .states) i) .1 (p .inv .opened i l .1 (rest-reached g c p r (tail i) .1 w, y, b))
 
   -- so a flood at rest has offered every link that any flood of that failure has
-  offered-most : {m n : ℕ} {f e : Flood} → Progress g c m f → Progress g c n e → atRest g e ≡ true → offeredLinks g f ≤ offeredLinks g e
-  unfolding offeredLinks
-  offered-most {f} {e} p q r =
-      count-mono (λ i. ltb 0 (at (f .states) i)) (λ i. ltb 0 (at (e .states) i)) links
-      (λ i l t. let (a, y, b) = p .inv .opened i l .0 (lt-says 0 (at (f .states) i) .0 t) in rest-offers q r i l (p .walked (tail i) a) y b)
+  rest-includes : {m n : ℕ} {f e : Flood} → Progress g c m f → Progress g c n e → atRest g e ≡ true → (i : ℕ) → i < links
+      → ltb 0 (at (f .states) i) ≡ true → ltb 0 (at (e .states) i) ≡ true
+  rest-includes {f} {e} p q r i l t =
+      let (a, y, b) = p .inv .opened i l .0 (lt-says 0 (at (f .states) i) .0 t) in
+      rest-offers q r i l (p .walked (tail i) a) y b
 
-  -- as many in every order
+  -- the same links in every order, and so as many
+  pub rest-offered-each : {m n : ℕ} {f e : Flood} → Progress g c m f → Progress g c n e → atRest g f ≡ true → atRest g e ≡ true
+      → (i : ℕ) → i < links → ltb 0 (at (f .states) i) ≡ ltb 0 (at (e .states) i)
+  rest-offered-each p q r t i l = says-same (rest-includes p q t i l, rest-includes q p r i l) Iff·rfl
+
   pub rest-offered-same : {m n : ℕ} {f e : Flood} → Progress g c m f → Progress g c n e → atRest g f ≡ true → atRest g e ≡ true
       → offeredLinks g f ≡ offeredLinks g e
-  rest-offered-same p q r t = omega (arith, offered-most p q t, offered-most q p r)
+  unfolding offeredLinks count
+  rest-offered-same p q r t = total-same _ _ links (λ i l. ap bit (rest-offered-each p q r t i l))
 
   -- and all that are not blocked, where each leaves a node, not the target, to which the flood leads
   pub rest-offered-all : {n : ℕ} {f : Flood} → Progress g c n f → atRest g f ≡ true

@@ -23,6 +23,17 @@ module _ (g : Digraph) (c : Failure) where
       let one : bit (accepts g j f) ≤ 1 = branch (λ (v : ℕ). v ≤ 1) (accepts g j f) (λ t. omega arith) (λ t. omega arith) in
       omega (arith, accepted-most js (step g c j f))
 
+  -- where all are accepted, the first ones are
+  pub first-accepted : (earlier later : List ℕ) (f : Flood) → accepted g c (earlier ++ later) f ≡ length (earlier ++ later) → accepted g c earlier f ≡ length earlier
+  unfolding accepted
+  first-accepted [] later f e = refl
+  first-accepted (j ∷ js) later f e =
+      let most = accepted-most (js ++ later) (step g c j f) in
+      ⊎-elim
+      (λ t. omega (arith, ap bit t, first-accepted js later (step g c j f) (omega (arith, ap bit t))))
+      (λ t. absurd (omega (arith, ap bit t)))
+      (known (accepts g j f))
+
   -- of a run every one is
   pub order-accepted : (n : ℕ) (f : Flood) → accepted g c (order g c n f) f ≡ length (order g c n f)
   unfolding order accepted

@@ -10,12 +10,12 @@ use denote.Ref.{now}
 use borrow.Author.Needs.{needs}
 use Rattle.heaviest.specs.declared.Asked.the-variants.{Middles, Refused}
 use Rattle.heaviest.specs.Drill.{isSize}
-use Rattle.heaviest.specs.Input.{untilFeed, numberOf, asked}
+use Rattle.heaviest.specs.Input.{untilFeed, valueOf, asked}
 use Rattle.heaviest.specs.Laws.Tests.{feed-within}
 use Rattle.heaviest.proofs.read.Statement.{statement}
 use Rattle.heaviest.proofs.read.Tie as tie
 
-asked-by : (s : List ℕ) (n m : ℕ) (t : Bool) → n ≡ untilFeed s → m ≡ numberOf (take n s) → isSize m ≡ t → asked s ≡ cond t (Middles m) Refused
+asked-by : (s : List ℕ) (n m : ℕ) (t : Bool) → n ≡ untilFeed s → m ≡ valueOf (take n s) → isSize m ≡ t → asked s ≡ cond t (Middles m) Refused
 unfolding asked
 asked-by s n m t e f g = rw (← e, ← f, g)
 

@@ -2,26 +2,31 @@
 -- checks for m up to 62. Assumes nothing.
 use Prim.Native.Nat.{ℕ, zero, suc, _+_, _*_, _-_, _/_, _%_, _<_, _≤_}
 use mathlib.Core.Path.{_≡_, refl, sym, _∙_, ap}
-use mathlib.Core.Logic.{inl, inr}
+use mathlib.Core.Logic.{_⊎_, inl, inr, ⊎-elim}
 use mathlib.Core.List.{List, [], _∷_, _++_}
 use native.Mathlib.Omega.{arith}
 use native.Mathlib.Decide.{decLt}
 use lib.ListN.{length, getD, replicate, length-replicate, length-append, List·getD-append}
 use lib.Seq.{getD-at, getD-append-add}
+use Rattle.scan.specs.Test.{failing}
 use Rattle.scan.specs.Entry.{replicate-at}
 use Rattle.mesh.specs.declared.Link.{Link}
 use Rattle.mesh.specs.declared.Answer.the-variants.{Accepted}
-use Rattle.mesh.specs.Mesh.{zeroLink, meshAnswer}
+use Rattle.mesh.specs.Mesh.{zeroLink, zeroMesh, meshAnswer}
 use Rattle.mesh.specs.WellFormed.{link, Joins, Rises, WellFormed, LinkInRange, InRange}
 use Rattle.mesh.specs.Laws.Checked.{accepts}
 use Rattle.heaviest.specs.Drill.{span, spansAt, spansBelow, drillLinks, drill, drillOf}
 use Rattle.heaviest.specs.Laws.Tests.{size-says}
 use Rattle.heaviest.specs.Laws.Spans.{spans-length, links-length}
 
--- what the library makes for a size
+-- what the library makes for a size, and for any other number
 pub drill-of : (m : ℕ) → 1 ≤ m → m ≤ 62 → drillOf m ≡ drill m
 unfolding drillOf
 drill-of m some most = rw (size-says m .1 (some, most))
+
+pub drill-none : (m : ℕ) → (m ≡ 0) ⊎ (62 < m) → drillOf m ≡ zeroMesh
+unfolding drillOf
+drill-none m other = rw (failing (size-says m) (λ (least, most). ⊎-elim (λ e. omega arith) (λ l. omega arith) other))
 
 -- ---- link numbers
 

@@ -9,15 +9,15 @@ use native.Mathlib.Omega.{arith}
 use native.Mathlib.Decide.{decLt}
 use lib.Dec.{eqb}
 use lib.ListN.{length, take, length-append}
-use lib.Seq.{take-length, take-suc, take-append-seam, getD-append-add}
+use lib.Seq.{length-take-le, take-all, take-length, take-suc, take-append-seam, getD-append-add}
 use borrow.Author.Tests.{lt-ltb, le-ltb, ne-eqb, eqb-true, eqb-false}
 use Rattle.scan.specs.Test.{branch, and-says, not-says}
 use Rattle.scan.specs.Entry.{at, at-inside}
 use Rattle.heaviest.specs.declared.Asked.{Asked}
 use Rattle.heaviest.specs.declared.Asked.the-variants.{Middles, Refused}
 use Rattle.heaviest.specs.Drill.{isSize}
-use Rattle.heaviest.specs.Input.{decimal, Names, untilFeed, isDigit, oneDigit, twoDigits, numberOf, asked}
-use Rattle.heaviest.specs.Laws.Tests.{size-says, digit-says}
+use Rattle.heaviest.specs.Input.{decimal, Names, untilFeed, isDigit, oneDigit, twoDigits, valueOf, asked}
+use Rattle.heaviest.specs.Laws.Tests.{size-says, digit-says, feed-within, feed-most}
 
 -- ---- digits
 
@@ -40,20 +40,20 @@ two-decimal a b = branch (λ (n : ℕ). 1 ≤ n → decimal n ≡ a ∷ (b ∷ [
     rw (le-ltb n 10 (omega arith), e, f))
     (λ t h. absurd (omega arith))
 
-number-long : (d : List ℕ) → 2 < length d → numberOf d ≡ 0
-unfolding numberOf
+number-long : (d : List ℕ) → 2 < length d → valueOf d ≡ 0
+unfolding valueOf
 number-long d h = rw (ne-eqb (length d) 1 (λ e. omega arith), ne-eqb (length d) 2 (λ e. omega arith))
 
-number-decimal : (d : List ℕ) → 1 ≤ numberOf d → decimal (numberOf d) ≡ d
-unfolding numberOf
+number-decimal : (d : List ℕ) → 1 ≤ valueOf d → decimal (valueOf d) ≡ d
+unfolding valueOf
 number-decimal [] h = absurd (omega arith)
 number-decimal (a ∷ []) h = one-decimal a h
 number-decimal (a ∷ (b ∷ [])) h = two-decimal a b h
 number-decimal (a ∷ (b ∷ (c ∷ d))) h = absurd (omega (arith, number-long (a ∷ (b ∷ (c ∷ d))) (omega arith)))
 
 -- a number is that of its decimal
-decimal-number : (m : ℕ) → 1 ≤ m → m ≤ 62 → numberOf (decimal m) ≡ m
-unfolding numberOf
+decimal-number : (m : ℕ) → 1 ≤ m → m ≤ 62 → valueOf (decimal m) ≡ m
+unfolding valueOf
 decimal-number m some most = elim (decLt m 10) [
   | yes h ↦ rw (lt-ltb m 10 h, digit-says (48 + m) .1 (omega arith)) (omega arith)
   | no h ↦
@@ -105,24 +105,24 @@ not-both m e = let z : _≡_ {A = ℕ} 0 1 = cc in omega arith
 
 module _ (s : List ℕ) where
   -- a number that has the right size is one that s is an input for
-  before-names : isSize (numberOf (before s)) ≡ true → Names s (numberOf (before s))
+  before-names : isSize (valueOf (before s)) ≡ true → Names s (valueOf (before s))
   before-names t =
-      let (least, most) = size-says (numberOf (before s)) .0 t in
-      let d : decimal (numberOf (before s)) ≡ before s = number-decimal (before s) least in
+      let (least, most) = size-says (valueOf (before s)) .0 t in
+      let d : decimal (valueOf (before s)) ≡ before s = number-decimal (before s) least in
       record { least = least; most = most; written = rw d (feed-split s) }
 
-  names-size : (m : ℕ) → Names s m → (numberOf (before s) ≡ m) × (isSize m ≡ true)
-  names-size m N = (ap numberOf (names-before s m N) ∙ decimal-number m (N .least) (N .most), size-says m .1 (N .least, N .most))
+  names-size : (m : ℕ) → Names s m → (valueOf (before s) ≡ m) × (isSize m ≡ true)
+  names-size m N = (ap valueOf (names-before s m N) ∙ decimal-number m (N .least) (N .most), size-says m .1 (N .least, N .most))
 
-  asks-names : (t : Bool) → isSize (numberOf (before s)) ≡ t → (m : ℕ) → cond t (Middles (numberOf (before s))) Refused ≡ Middles m → Names s m
-  asks-names true e m q = let same : numberOf (before s) ≡ m = cc in rw (← same) (before-names e)
+  asks-names : (t : Bool) → isSize (valueOf (before s)) ≡ t → (m : ℕ) → cond t (Middles (valueOf (before s))) Refused ≡ Middles m → Names s m
+  asks-names true e m q = let same : valueOf (before s) ≡ m = cc in rw (← same) (before-names e)
   asks-names false e m q = absurd (not-both m q)
 
   -- s asks for m just where it is an input for m, and is refused just where it is one for no m
   pub asked-names : (m : ℕ) → (asked s ≡ Middles m) ↔ Names s m
   unfolding asked
   asked-names m = (
-    asks-names (isSize (numberOf (before s))) refl m,
+    asks-names (isSize (valueOf (before s))) refl m,
     λ N. let (same, size) = names-size m N in rw (same, size),
   )
 
@@ -130,5 +130,21 @@ module _ (s : List ℕ) where
   unfolding asked
   refused-names = (
     λ e m N. not-both m (sym e ∙ asked-names m .1 N),
-    λ none. branch (λ (a : Asked). a ≡ Refused) (isSize (numberOf (before s))) (λ t. absurd (none _ (before-names t))) (λ t. refl),
+    λ none. branch (λ (a : Asked). a ≡ Refused) (isSize (valueOf (before s))) (λ t. absurd (none _ (before-names t))) (λ t. refl),
   )
+
+-- ---- long inputs
+
+-- an input of more than three bytes is refused
+asked-long : (s : List ℕ) → 3 < length s → asked s ≡ Refused
+unfolding asked
+asked-long s h =
+    let none : valueOf (before s) ≡ 0 = number-long (before s) (omega (arith, feed-most s, length-take-le (untilFeed s) s (feed-within s))) in
+    rw none
+
+-- so what stands past the first four bytes changes nothing
+pub asked-take : (n : ℕ) → 4 ≤ n → (s : List ℕ) → asked (take n s) ≡ asked s
+asked-take n h s = elim (decLt (length s) n) [
+  | yes l ↦ ap asked (take-all n s (omega arith))
+  | no l ↦ asked-long (take n s) (omega (arith, length-take-le n s (omega arith))) ∙ sym (asked-long s (omega arith))
+]

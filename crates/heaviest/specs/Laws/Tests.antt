@@ -1,5 +1,5 @@
 -- What the tests of a size and of a digit say, and how much of an input stands before a line feed. Assumes nothing.
-use Prim.Native.Nat.{ℕ, _-_, _≤_}
+use Prim.Native.Nat.{ℕ, _+_, _-_, _≤_}
 use mathlib.Core.Path.{_≡_}
 use mathlib.Core.List.{List}
 use native.Mathlib.Omega.{arith}
@@ -18,6 +18,10 @@ digit-says b = and-says (le-says 48 b) (le-says b 57)
 
 pub feed-within : (s : List ℕ) → untilFeed s ≤ length s
 feed-within s = branch (λ (n : ℕ). n ≤ length s) (eqb (at s (length s - 1)) 10) (λ t. omega arith) (λ t. omega arith)
+
+-- at most one byte is left out
+pub feed-most : (s : List ℕ) → length s ≤ untilFeed s + 1
+feed-most s = branch (λ (n : ℕ). length s ≤ n + 1) (eqb (at s (length s - 1)) 10) (λ t. omega arith) (λ t. omega arith)
 
 pub feed-none : (s : List ℕ) → length s ≡ 0 → untilFeed s ≡ 0
 feed-none s e = omega (arith, feed-within s)

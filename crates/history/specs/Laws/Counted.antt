@@ -1,7 +1,7 @@
 -- How many deliveries a wavelength has had since the cut: what the states of its links tell, exactly two for each link ever offered less one for each of its
 -- route at rest, and never more than 2 × L - 4, since no other link joins the ends of the cut one. Assumes 256 entries in the mesh's list of links.
 use Prim.Native.Nat.{ℕ, _+_, _*_, _<_, _≤_}
-use mathlib.Core.Path.{_≡_, sym, ap}
+use mathlib.Core.Path.{_≡_, sym, ap, _∙_}
 use mathlib.Core.Logic.{_≢_}
 use mathlib.Core.Bool.{Bool, true, false, cond}
 use mathlib.Core.List.{List}
@@ -14,7 +14,7 @@ use Rattle.flood.specs.declared.Flood.{Flood}
 use Rattle.flood.specs.Digraph as failures
 use Rattle.flood.specs.Machine.{atRest, offeredLinks}
 use Rattle.flood.specs.Laws.Progress.{Progress}
-use Rattle.flood.specs.Laws.Bound.{rest-offered-same}
+use Rattle.flood.specs.Laws.Bound.{rest-offered-each}
 use Rattle.flood.specs.Laws.Route.{rest-exactly}
 use Rattle.flood.specs.Laws.Cut.{cut-made-4}
 use Rattle.wavelengths.specs.declared.Wavelength.{Wavelength}
@@ -35,13 +35,19 @@ use Rattle.recovery.specs.Session.{floods}
 use Rattle.recovery.specs.Calls.{routeOf}
 use Rattle.history.specs.History.{Call}
 use Rattle.history.specs.Log.{deliveriesOn}
-use Rattle.history.specs.Demand.{AtRest, OnlyLink, hadOn, ended, log, offeredOn}
+use Rattle.history.specs.Rules.{start}
+use Rattle.history.specs.Offered.{noneOffered, offered}
+use Rattle.history.specs.Demand.{AtRest, hadOn, digraphOn, ended, log, offeredOn}
 use Rattle.history.specs.Laws.Kept.{cutSession, played, kept-cut}
 use Rattle.history.specs.Laws.Started.{sound, progress, ended-kept}
 use Rattle.history.specs.Laws.Routed.{rest-seen, route-found}
 use Rattle.history.specs.Laws.Offered.{ended-marks}
 
 -- ---- links between the same nodes
+
+-- no other link joins the ends of link k
+abbrev OnlyLink : Mesh → ℕ → Type 0
+OnlyLink m k = (i : ℕ) → i < m .count → (link m i .low ≡ link m k .low) × (link m i .high ≡ link m k .high) → i ≡ k
 
 -- the pairs of ends rise, so that no two links have the same
 only-link : {m : Mesh} → WellFormed m → (k : ℕ) → k < m .count → OnlyLink m k
@@ -108,11 +114,17 @@ module _ (m : Mesh) (sized : length (m .links) ≡ 256) (good : planned m .answe
       (none-straight W (planned m .plan) (q .link) (only-link W k (q .link)) w))
       (ended-kept m good sized calls)
 
--- in every order the same links are offered
-pub offered-same : (m : Mesh) → length (m .links) ≡ 256 → planned m .answer ≡ Accepted → (calls others : List Call) (k : ℕ)
-    → log m calls .cut ≡ Link k → log m others .cut ≡ Link k → (w : Wavelength) → AtRest (ended m calls) w → AtRest (ended m others) w
-    → offeredOn m calls w ≡ offeredOn m others w
-offered-same m sized good calls others k e f w r q =
-    let (_, one, rest) = rested m sized good calls k e w r in
-    let (_, other, rest′) = rested m sized good others k f w q in
-    rw (offered-count m sized good calls w, offered-count m sized good others w) (rest-offered-same _ _ one other rest rest′)
+-- in every order the same links are offered, and so as many
+module _ (m : Mesh) (sized : length (m .links) ≡ 256) (good : planned m .answer ≡ Accepted) (calls others : List Call) (k : ℕ)
+    (e : log m calls .cut ≡ Link k) (e′ : log m others .cut ≡ Link k) (w : Wavelength) (r : AtRest (ended m calls) w) (r′ : AtRest (ended m others) w) where
+  offered-each : (i : ℕ) → i < m .count → offered (digraphOn m) calls start noneOffered w i ≡ offered (digraphOn m) others start noneOffered w i
+  offered-each i l =
+      let (_, one, rest) = rested m sized good calls k e w r in
+      let (_, other, rest′) = rested m sized good others k e′ w r′ in
+      ended-marks m good sized calls w i ∙ rest-offered-each _ _ one other rest rest′ i l ∙ sym (ended-marks m good sized others w i)
+
+  pub offered-same :
+      ((i : ℕ) → i < m .count → offered (digraphOn m) calls start noneOffered w i ≡ offered (digraphOn m) others start noneOffered w i)
+      × (offeredOn m calls w ≡ offeredOn m others w)
+  unfolding count
+  offered-same = (offered-each, total-same _ _ (m .count) (λ i l. ap bit (offered-each i l)))

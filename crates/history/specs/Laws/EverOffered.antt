@@ -1,19 +1,17 @@
 -- A link that the rules ever offered on a wavelength since the cut is offered after the cut and some first ones of that wavelength's own deliveries, made alone,
 -- and no other link is. Assumes 256 entries in the mesh's list of links.
 use Prim.Native.Nat.{ℕ, _<_}
-use mathlib.Core.Path.{_≡_, refl, sym, ap, _∙_}
-use mathlib.Core.Logic.{⊎-elim, _↔_}
+use mathlib.Core.Path.{_≡_, sym, ap, _∙_}
+use mathlib.Core.Logic.{_↔_}
 use mathlib.Core.Bool.{true}
-use mathlib.Core.List.{List, [], _∷_, _++_}
-use native.Mathlib.Omega.{arith}
+use mathlib.Core.List.{List, _++_}
 use lib.ListN.{length, length-map}
-use Rattle.scan.specs.Test.{known, lt-says}
+use Rattle.scan.specs.Test.{lt-says}
 use Rattle.scan.specs.Entry.{at}
-use Rattle.scan.specs.Total.{bit}
 use Rattle.flood.specs.declared.Flood.{Flood}
 use Rattle.flood.specs.Digraph.{Digraph, Failure}
 use Rattle.flood.specs.Machine as machine
-use Rattle.flood.specs.Laws.Order.{accepted-most}
+use Rattle.flood.specs.Laws.Order.{first-accepted}
 use Rattle.flood.specs.Laws.Ever.{ever-offered}
 use Rattle.wavelengths.specs.declared.Wavelength.{Wavelength}
 use Rattle.wavelengths.specs.Wavelength.{on}
@@ -35,18 +33,6 @@ use Rattle.history.specs.Laws.Kept.{graphs, lost, begun, played, Since, 
 use Rattle.history.specs.Laws.Started.{sound, progress, ended-kept}
 use Rattle.history.specs.Laws.Undisturbed.{alone-is}
 use Rattle.history.specs.Laws.Offered.{begun-few, ended-marks}
-
--- of deliveries that are all accepted the first ones are
-first-accepted : (g : Digraph) (c : Failure) (earlier later : List ℕ) (f : Flood)
-    → machine.accepted g c (earlier ++ later) f ≡ length (earlier ++ later) → machine.accepted g c earlier f ≡ length earlier
-unfolding machine.accepted
-first-accepted g c [] later f e = refl
-first-accepted g c (j ∷ js) later f e =
-    let most = accepted-most g c (js ++ later) (machine.step g c j f) in
-    ⊎-elim
-    (λ t. omega (arith, ap bit t, first-accepted g c js later (machine.step g c j f) (omega (arith, ap bit t))))
-    (λ t. absurd (omega (arith, ap bit t)))
-    (known (machine.accepts g j f))
 
 module _ (m : Mesh) (sized : length (m .links) ≡ 256) (good : planned m .answer ≡ Accepted) where
   abbrev p : Plan

@@ -17,7 +17,6 @@ use Rattle.flood.specs.Machine.{Blank}
 use Rattle.flood.specs.Path.{Strong}
 use Rattle.flood.specs.Laws.Begin.{fresh-blank}
 use Rattle.flood.specs.Laws.Progress.{Progress, after-progress}
-use Rattle.flood.specs.Laws.Order.{accepted-most}
 use Rattle.flood.specs.Laws.Cut.{cut-sound}
 use Rattle.wavelengths.specs.declared.Floods.{Floods}
 use Rattle.wavelengths.specs.declared.Wavelength.{Wavelength}
@@ -26,7 +25,7 @@ use Rattle.wavelengths.specs.Wavelength.{wavelengthOf, on}
 use Rattle.wavelengths.specs.Merge as merge
 use Rattle.wavelengths.specs.Merge.{Turn, turn, linksOn, freshOnEach, begin, step, play}
 use Rattle.wavelengths.specs.Laws.Wavelength.{arcs-strong}
-use Rattle.wavelengths.specs.Laws.Project.{links-all, fresh-on, on-begin, play-append, accepted-append, play-on, acceptedOn, accepted-both}
+use Rattle.wavelengths.specs.Laws.Project.{links-all, fresh-on, on-begin, play-append, accepted-append, play-on, acceptedOn, accepted-both, own-most}
 use Rattle.wavelengths.specs.Laws.Run.{order-accepted}
 use Rattle.mesh.specs.declared.Mesh.{Mesh}
 use Rattle.mesh.specs.declared.Plan.{Plan}
@@ -232,12 +231,12 @@ module _ (m : Mesh) (p : Plan) where
     played-own w = play-on (graphs m p) (lost m p k) w ts (begun m p k)
 
     -- and each of these was accepted
-    own-most : (w : Wavelength) → acceptedOn (graphs m p) (lost m p k) w ts (begun m p k) ≤ length (linksOn w ts)
-    own-most w = accepted-most (graphs m p w) (lost m p k w) (linksOn w ts) (on w (begun m p k))
+    most : (w : Wavelength) → acceptedOn (graphs m p) (lost m p k) w ts (begun m p k) ≤ length (linksOn w ts)
+    most w = own-most (graphs m p) (lost m p k) w ts (begun m p k)
 
     pub accepted-own : (w : Wavelength) → acceptedOn (graphs m p) (lost m p k) w ts (begun m p k) ≡ length (linksOn w ts)
-    accepted-own First = omega (arith, q .all, accepted-both (graphs m p) (lost m p k) ts (begun m p k), links-all ts, own-most First, own-most Second)
-    accepted-own Second = omega (arith, q .all, accepted-both (graphs m p) (lost m p k) ts (begun m p k), links-all ts, own-most First, own-most Second)
+    accepted-own First = omega (arith, q .all, accepted-both (graphs m p) (lost m p k) ts (begun m p k), links-all ts, most First, most Second)
+    accepted-own Second = omega (arith, q .all, accepted-both (graphs m p) (lost m p k) ts (begun m p k), links-all ts, most First, most Second)
 
   -- so it has made progress by them
   module _ (links : m .count ≤ 256) (nodes : m .nodes ≤ 64) (w : Wavelength) where

@@ -1,9 +1,9 @@
 -- The links that the rules ever offered since the cut are those that are not quiet: a state never falls, and leaves 0 only for 1. Assumes 256 entries in the
 -- mesh's list of links.
-use Prim.Native.Nat.{ℕ, suc, _<_, _≤_}
-use mathlib.Core.Path.{_≡_, refl, sym, ap, subst}
+use Prim.Native.Nat.{ℕ, _<_, _≤_}
+use mathlib.Core.Path.{_≡_, refl, sym, subst}
 use mathlib.Core.Logic.{⊎-elim}
-use mathlib.Core.Bool.{true, _||_}
+use mathlib.Core.Bool.{_||_}
 use mathlib.Core.List.{List, [], _∷_}
 use native.Mathlib.Omega.{arith}
 use native.Mathlib.Decide.{decLt}
@@ -12,21 +12,18 @@ use lib.ListN.{length}
 use borrow.Author.Tests.{lt-ltb, le-ltb, eq-eqb, ne-eqb}
 use Rattle.scan.specs.Test.{clash, known}
 use Rattle.scan.specs.Entry.{at, replicate-at}
-use Rattle.scan.specs.Total.{bit}
 use Rattle.flood.specs.Digraph.{Digraph, Failure, Sound}
 use Rattle.flood.specs.Digraph as failures
 use Rattle.flood.specs.Machine.{Roomy, fresh}
 use Rattle.flood.specs.Laws.Frame.{frame-room}
 use Rattle.flood.specs.Laws.Begin.{begin-at-most-1}
 use Rattle.flood.specs.Laws.Ever.{step-rises}
-use Rattle.flood.specs.Laws.Order as machine
 use Rattle.wavelengths.specs.declared.Floods.{Floods}
 use Rattle.wavelengths.specs.declared.Wavelength.{Wavelength}
-use Rattle.wavelengths.specs.declared.Wavelength.the-variants.{First, Second}
 use Rattle.wavelengths.specs.Wavelength.{same, wavelengthOf, arcsOn, on}
 use Rattle.wavelengths.specs.Merge as merge
-use Rattle.wavelengths.specs.Merge.{Turn, turn, linksOn, freshOnEach, step, play, order}
-use Rattle.wavelengths.specs.Laws.Project.{links-all, fresh-on, on-begin, step-own, step-other, acceptedOn, accepted-both}
+use Rattle.wavelengths.specs.Merge.{Turn, turn, freshOnEach, step, play, order}
+use Rattle.wavelengths.specs.Laws.Project.{fresh-on, on-begin, step-own, step-other, accepted-first}
 use Rattle.wavelengths.specs.Laws.Run.{order-accepted}
 use Rattle.mesh.specs.declared.Mesh.{Mesh}
 use Rattle.mesh.specs.declared.Plan.{Plan}
@@ -96,26 +93,12 @@ module _ (g : Digraph) (x : Cut) (k : ℕ) where
     turn-marks p room t o M w i = let (rises, first) = state-next p room t w i in rw (M w i) (marked-next _ _ rises first)
 
     -- any that are accepted in turn
-    own-most : (w : Wavelength) (ts : List Turn) (p : Floods) → acceptedOn graphs lost w ts p ≤ length (linksOn w ts)
-    own-most w ts p = machine.accepted-most (graphs w) (lost w) (linksOn w ts) (on w p)
-
-    accepted-most : (ts : List Turn) (p : Floods) → merge.accepted graphs lost ts p ≤ length ts
-    accepted-most ts p = omega (arith, accepted-both graphs lost ts p, own-most First ts p, own-most Second ts p, links-all ts)
-
-    accepted-first : (t : Turn) (ts : List Turn) (p : Floods) → merge.accepted graphs lost (t ∷ ts) p ≡ suc (length ts)
-        → (merge.accepts graphs t p ≡ true) × (merge.accepted graphs lost ts (step graphs lost t p) ≡ length ts)
-    unfolding merge.accepted
-    accepted-first t ts p e = ⊎-elim
-        (λ a. (a, omega (arith, ap bit a)))
-        (λ a. absurd (omega (arith, ap bit a, accepted-most ts (step graphs lost t p))))
-        (known (merge.accepts graphs t p))
-
     pub turns-mark : (ts : List Turn) (p : Floods) → Rooms p → merge.accepted graphs lost ts p ≡ length ts
         → (o : Offered) → Marks p o → Marks (play graphs lost ts p) (offeredAlong g k ts (seenOf x p) o)
     unfolding play offeredAlong
     turns-mark [] p room e o M = M
     turns-mark (t ∷ ts) p room e o M =
-        let (a, rest) = accepted-first t ts p e in
+        let (a, rest) = accepted-first graphs lost t ts p e in
         let later : Floods = step graphs lost t p in
         subst (λ (n : Now). Marks (play graphs lost ts later) (offeredAlong g k ts n (andAt n o)))
         (turn-ruled g x (λ w. sound w .head<) k p room t a)

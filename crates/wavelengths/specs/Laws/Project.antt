@@ -1,15 +1,18 @@
 -- A delivery on one wavelength leaves the other flood as it is, so that any mixed list of deliveries is, on each wavelength, that wavelength's own
 -- list. Assumes nothing.
-use Prim.Native.Nat.{ℕ, _+_}
+use Prim.Native.Nat.{ℕ, suc, _+_, _≤_}
 use mathlib.Core.Path.{_≡_, refl, ap, _∙_}
+use mathlib.Core.Logic.{⊎-elim}
 use mathlib.Core.Bool.{Bool, true, false, cond}
 use mathlib.Core.List.{List, [], _∷_, _++_}
 use native.Mathlib.Omega.{arith}
 use lib.ListN.{length}
+use Rattle.scan.specs.Test.{known}
 use Rattle.scan.specs.Total.{bit}
 use Rattle.flood.specs.Digraph.{Digraph, Failure}
 use Rattle.flood.specs.declared.Flood.{Flood}
 use Rattle.flood.specs.Machine as machine
+use Rattle.flood.specs.Laws.Order as ordering
 use Rattle.wavelengths.specs.declared.Floods.{Floods}
 use Rattle.wavelengths.specs.declared.Wavelength.the-variants.{First, Second}
 use Rattle.wavelengths.specs.Wavelength.{Wavelength, same, on, put, pair}
@@ -159,3 +162,19 @@ module _ (g : Wavelength → Digraph) (c : Wavelength → Failure) where
       share : (n : ℕ) (w : Wavelength) → cond {A = ℕ} (same First w) n 0 + cond {A = ℕ} (same Second w) n 0 ≡ n
       share n First = omega arith
       share n Second = omega arith
+
+  -- of any no more are accepted than there are
+  pub own-most : (w : Wavelength) (ts : List Turn) (p : Floods) → acceptedOn w ts p ≤ length (linksOn w ts)
+  own-most w ts p = ordering.accepted-most (g w) (c w) (linksOn w ts) (on w p)
+
+  accepted-most : (ts : List Turn) (p : Floods) → accepted g c ts p ≤ length ts
+  accepted-most ts p = omega (arith, accepted-both ts p, own-most First ts p, own-most Second ts p, links-all ts)
+
+  -- where all are accepted, the first is, and then the others are
+  pub accepted-first : (t : Turn) (ts : List Turn) (p : Floods) → accepted g c (t ∷ ts) p ≡ suc (length ts)
+      → (accepts g t p ≡ true) × (accepted g c ts (step g c t p) ≡ length ts)
+  unfolding accepted
+  accepted-first t ts p e = ⊎-elim
+      (λ a. (a, omega (arith, ap bit a)))
+      (λ a. absurd (omega (arith, ap bit a, accepted-most ts (step g c t p))))
+      (known (accepts g t p))
