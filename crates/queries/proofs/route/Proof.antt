@@ -22,7 +22,7 @@ use Rattle.pieces.specs.Pieces.{chosen, digraph, tested}
 use Rattle.pieces.specs.Given.{Given}
 use Rattle.pieces.specs.Laws.Tested.{Split, tested-is, given-standing}
 use Rattle.queries.specs.Queries.{linksWhere}
-use Rattle.queries.specs.Laws.Counts.{resting-counted}
+use Rattle.pieces.specs.Laws.Counts.{resting-counted}
 use Rattle.queries.proofs.route.Statement.{statement}
 use Rattle.queries.proofs.route.Tie as tie
 

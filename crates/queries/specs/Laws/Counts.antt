@@ -4,7 +4,6 @@ use mathlib.Core.Path.{_≡_, refl, ap}
 use mathlib.Core.Bool.{Bool, true, false, cond, _&&_}
 use native.Mathlib.Omega.{arith}
 use Rattle.scan.specs.Entry.{at}
-use Rattle.scan.specs.Total.{count-any}
 use Rattle.metres.specs.declared.Length.the-variants.{Metres}
 use Rattle.metres.specs.Length.{lengthOf, routeLength}
 use Rattle.metres.specs.Laws.Length.{length-none}
@@ -13,13 +12,9 @@ use Rattle.mesh.specs.declared.Mesh.{Mesh}
 use Rattle.mesh.specs.declared.Plan.{Plan}
 use Rattle.mesh.specs.declared.Answer.{Answer}
 use Rattle.mesh.specs.declared.Answer.the-variants.{Accepted, Refused}
-use Rattle.flood.specs.declared.Flood.{Flood}
-use Rattle.flood.specs.Digraph.{Digraph}
-use Rattle.flood.specs.Machine.{underWay, some, atRest, activity}
 use Rattle.flood.specs.Topology.{underWayOf}
 use Rattle.wavelengths.specs.declared.Floods.{Floods}
 use Rattle.wavelengths.specs.declared.Wavelength.{Wavelength}
-use Rattle.wavelengths.specs.declared.Wavelength.the-variants.{First, Second}
 use Rattle.wavelengths.specs.Wavelength.{on}
 use Rattle.wavelengths.specs.Merge as both
 use Rattle.formed.specs.declared.Cut.{Cut}
@@ -28,26 +23,11 @@ use Rattle.formed.specs.Formed.{recordAnswer}
 use Rattle.formed.specs.Laws.Forming.{record-few}
 use Rattle.topology.specs.Backup.{backupOn}
 use Rattle.refusals.specs.Refusals.{standing, resting, mendAnswer}
+use Rattle.pieces.specs.Laws.Counts.{both-counted}
 use Rattle.queries.specs.Counts.{linksBy}
-
-module _ (g : Digraph) (f : Flood) (few : g .links ≤ 256) where
-  all : min (g .links) 256 ≡ g .links
-  all = omega arith
-
-  pub under-way-counted : underWayOf (g .links) (f .states) ≡ activity g f
-  unfolding underWayOf activity
-  under-way-counted = rw (all)
-
-  pub resting-counted : resting (g .links) (f .states) ≡ atRest g f
-  unfolding underWayOf atRest some
-  resting-counted = rw (all) (count-any (λ i. underWay (at (f .states) i)) (g .links))
 
 -- the floods on the two wavelengths of a mesh under a plan
 module _ (m : Mesh) (p : Plan) (f : Floods) (few : m .count ≤ 256) where
-  both-counted : (resting (m .count) (f .first .states) && resting (m .count) (f .second .states)) ≡ both.atRest (λ w. backupOn w m p) f
-  unfolding both.atRest
-  both-counted = rw (resting-counted (backupOn First m p) (f .first) few, resting-counted (backupOn Second m p) (f .second) few)
-
   -- the route length on a wavelength, by the numbers of links that are under way
   pub length-counted : (length : ℕ → ℕ) (c : Cut) (w : Wavelength)
       → lengthOf length (isTaken (on w f .states))
@@ -55,7 +35,7 @@ module _ (m : Mesh) (p : Plan) (f : Floods) (few : m .count ≤ 256) where
       ≡ routeLength (standing c && both.atRest (λ v. backupOn v m p) f) length (at (on w f .states)) (m .count)
   unfolding routeLength
   length-counted length cuts.Nothing w = length-none length (isTaken (on w f .states))
-  length-counted length (cuts.Link k) w = rw (both-counted) (over (both.atRest (λ v. backupOn v m p) f))
+  length-counted length (cuts.Link k) w = rw (both-counted m p f few) (over (both.atRest (λ v. backupOn v m p) f))
     where
       taken : ℕ → Bool
       taken = isTaken (on w f .states)

@@ -19,13 +19,13 @@ use Rattle.formed.specs.declared.Cut.the-variants as cuts
 use Rattle.formed.specs.Formed.{cutLink}
 use Rattle.refusals.specs.Refusals.{standing}
 use Rattle.pieces.specs.Pieces.{chosen, lost}
+use Rattle.pieces.specs.Laws.Counts.{under-way-counted}
 use Rattle.changes.specs.declared.Moved.{Moved}
 use Rattle.changes.specs.declared.Made.{Made}
 use Rattle.changes.specs.Changes.{AfterDelivery, AfterRun}
 use Rattle.queries.specs.declared.Told.{Told}
 use Rattle.queries.specs.declared.Found.{Found}
 use Rattle.queries.specs.Queries.{OfLink, linksWhere, OfRoute}
-use Rattle.queries.specs.Laws.Counts.{under-way-counted}
 use Rattle.recovery.specs.declared.Session.{Session}
 use Rattle.recovery.specs.Session.{floods, sessionOf}
 use Rattle.recovery.specs.declared.Delivered.{Delivered}
