@@ -1,5 +1,5 @@
 // The recovery machine: a session on a mesh and a plan, and its calls by value. Each call takes the session apart once, hands its pieces to a
-// function of the crate `changes` or `queries`, and puts the session together once.
+// function of the crate `changes`, `status` or `queries`, and puts the session together once.
 ghost use mathlib.Core.Path.{_≡_};
 ghost use lib.ListN.{replicate};
 ghost use Rattle.flood.specs.Machine.{fresh};
@@ -15,7 +15,7 @@ use mesh::Answer;
 use mesh::Mesh;
 use mesh::Plan;
 use metres::Length;
-use queries::Told;
+use status::Told;
 
 // Mesh, plan, the cut link or none, and the flood on wavelength 1 and on wavelength 2.
 pub struct Session {
@@ -264,7 +264,7 @@ impl Session {
         let cut = self.cut;
         let first = self.first;
         let second = self.second;
-        let told = queries::status(
+        let told = status::status(
             mesh,
             &plan.directions,
             cut,

@@ -23,9 +23,10 @@ use Rattle.pieces.specs.Laws.Counts.{under-way-counted}
 use Rattle.changes.specs.declared.Moved.{Moved}
 use Rattle.changes.specs.declared.Made.{Made}
 use Rattle.changes.specs.Changes.{AfterDelivery, AfterRun}
-use Rattle.queries.specs.declared.Told.{Told}
+use Rattle.status.specs.declared.Told.{Told}
+use Rattle.status.specs.Status.{OfLink}
 use Rattle.queries.specs.declared.Found.{Found}
-use Rattle.queries.specs.Queries.{OfLink, linksWhere, OfRoute}
+use Rattle.queries.specs.Queries.{linksWhere, OfRoute}
 use Rattle.recovery.specs.declared.Session.{Session}
 use Rattle.recovery.specs.Session.{floods, sessionOf}
 use Rattle.recovery.specs.declared.Delivered.{Delivered}

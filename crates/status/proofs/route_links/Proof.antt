@@ -1,9 +1,9 @@
--- `queries::route_links` meets its contract: each return rewrites with the cut and the tests that led there.
+-- `status::route_links` meets its contract: each return rewrites with the cut and the tests that led there.
 use mathlib.Core.Bool.{and-false}
 use borrow.Author.Tests.{eq-eqb, ne-eqb}
 use borrow.Author.Needs.{needs}
-use Rattle.queries.proofs.route_links.Statement.{statement}
-use Rattle.queries.proofs.route_links.Tie as tie
+use Rattle.status.proofs.route_links.Statement.{statement}
+use Rattle.status.proofs.route_links.Tie as tie
 
 enum-told : tie.Need-enum-told
 enum-told c = search needs

@@ -1,7 +1,7 @@
--- `queries::list_taken` meets its contract: each arm lists the taken links of its wavelength.
+-- `status::list_taken` meets its contract: each arm lists the taken links of its wavelength.
 use borrow.Author.Needs.{needs}
-use Rattle.queries.proofs.list_taken.Statement.{statement}
-use Rattle.queries.proofs.list_taken.Tie as tie
+use Rattle.status.proofs.list_taken.Statement.{statement}
+use Rattle.status.proofs.list_taken.Tie as tie
 
 enum-told : tie.Need-enum-told
 enum-told c = search needs

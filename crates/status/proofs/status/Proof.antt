@@ -1,4 +1,4 @@
--- `queries::status` meets its contract: refused, it says so; accepted, the state and the count are those of the wavelength, and the length that of its
+-- `status::status` meets its contract: refused, it says so; accepted, the state and the count are those of the wavelength, and the length that of its
 -- taken links at rest under a cut, else of none.
 use Prim.Native.Nat.{ℕ, _<_, _≤_, min}
 use mathlib.Core.Path.{_≡_, sym, ap, _∙_}
@@ -26,12 +26,12 @@ use Rattle.refusals.specs.Refusals.{standing}
 use Rattle.refusals.specs.Laws.Tested.{status-accepted}
 use Rattle.pieces.specs.Pieces.{digraph, tested}
 use Rattle.pieces.specs.Laws.Tested.{tested-is}
-use Rattle.queries.specs.declared.Told.{Told}
-use Rattle.queries.specs.Counts.{linksBy}
-use Rattle.queries.specs.Queries.{zeroTold}
-use Rattle.queries.specs.Laws.Counts.{length-counted}
-use Rattle.queries.proofs.status.Statement.{statement}
-use Rattle.queries.proofs.status.Tie as tie
+use Rattle.status.specs.declared.Told.{Told}
+use Rattle.status.specs.Counts.{linksBy}
+use Rattle.status.specs.Status.{zeroTold}
+use Rattle.status.specs.Laws.Counts.{length-counted}
+use Rattle.status.proofs.status.Statement.{statement}
+use Rattle.status.proofs.status.Tie as tie
 
 -- the floods that are lent
 abbrev lent : tie.Start → Floods

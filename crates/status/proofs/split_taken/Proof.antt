@@ -1,4 +1,4 @@
--- `queries::split_taken` meets its contract: no link has 0 metres, and the listed links are the taken ones.
+-- `status::split_taken` meets its contract: no link has 0 metres, and the listed links are the taken ones.
 use Prim.Native.Nat.{ℕ, min}
 use mathlib.Core.Path.{_≡_, sym, ap, _∙_}
 use mathlib.Core.Bool.{true}
@@ -10,8 +10,8 @@ use Rattle.metres.specs.Laws.Length.{length-none, length-listed}
 use Rattle.taken.specs.Taken.{isTaken}
 use Rattle.mesh.specs.WellFormed.{lengths}
 use Rattle.wavelengths.specs.Wavelength.{each}
-use Rattle.queries.proofs.split_taken.Statement.{statement}
-use Rattle.queries.proofs.split_taken.Tie as tie
+use Rattle.status.proofs.split_taken.Statement.{statement}
+use Rattle.status.proofs.split_taken.Tie as tie
 
 split-requires : tie.Need-split-requires
 split-requires c κs = search needs

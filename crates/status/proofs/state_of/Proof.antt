@@ -1,7 +1,7 @@
--- `queries::state_of` meets its contract: each arm reads the states of its wavelength.
+-- `status::state_of` meets its contract: each arm reads the states of its wavelength.
 use borrow.Author.Needs.{needs}
-use Rattle.queries.proofs.state_of.Statement.{statement}
-use Rattle.queries.proofs.state_of.Tie as tie
+use Rattle.status.proofs.state_of.Statement.{statement}
+use Rattle.status.proofs.state_of.Tie as tie
 
 enum-told : tie.Need-enum-told
 enum-told c = search needs
