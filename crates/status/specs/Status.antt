@@ -10,7 +10,6 @@ use Rattle.mesh.specs.declared.Mesh.{Mesh}
 use Rattle.mesh.specs.declared.Answer.{Answer}
 use Rattle.mesh.specs.declared.Answer.the-variants.{Accepted, Refused}
 use Rattle.mesh.specs.WellFormed.{lengths}
-use Rattle.flood.specs.Machine as machine
 use Rattle.flood.specs.Topology.{underWayOf}
 use Rattle.wavelengths.specs.declared.Floods.{Floods}
 use Rattle.wavelengths.specs.Wavelength.{wavelengthOf, on}

@@ -1,6 +1,6 @@
 -- The links that the rules ever offered since the cut are those that are not quiet: a state never falls, and leaves 0 only for 1. Assumes 256 entries in the
 -- mesh's list of links.
-use Prim.Native.Nat.{ℕ, _<_, _≤_}
+use Prim.Native.Nat.{ℕ, _≤_}
 use mathlib.Core.Path.{_≡_, refl, sym, subst}
 use mathlib.Core.Logic.{⊎-elim}
 use mathlib.Core.Bool.{_||_}
