@@ -18,16 +18,16 @@ pub fn asked(input: &[u8]) -> Option<u8> {
 }
 
 /// Each of the first `middles` nodes has a link to both of the two nodes after
-/// them, and these two have one to each other. Where `middles` is not 1 to 62 the
-/// mesh is all zeros.
+/// them, the outer nodes, and these two have one to each other. Where `middles` is
+/// not 1 to 62 the mesh is all zeros.
 pub fn mesh(middles: u8) -> Mesh {
     if !(1..=MOST_MIDDLES).contains(&middles) {
         return Mesh::ZERO;
     }
-    let hubs = [middles, middles + 1];
-    let mut pairs = BTreeSet::from([hubs.into()]);
+    let outer_nodes = [middles, middles + 1];
+    let mut pairs = BTreeSet::from([outer_nodes.into()]);
     for middle in 0..middles {
-        pairs.extend(hubs.map(|hub| (middle, hub)));
+        pairs.extend(outer_nodes.map(|outer| (middle, outer)));
     }
     // The set gives the pairs in rising order.
     let link = |(low, high)| Link {
@@ -80,7 +80,7 @@ mod tests {
     }
 
     #[test]
-    fn links_stand_in_rising_order_with_that_of_the_two_hubs_last() {
+    fn links_stand_in_rising_order_with_that_of_the_outer_nodes_last() {
         for middles in 1..=62 {
             let mesh = mesh(middles);
             assert_eq!(mesh.check(), Ok(()));

@@ -8,7 +8,7 @@ use crate::script::{Call, Origin, Script};
 use crate::session::Wavelength;
 
 /// Numbers of middle nodes, each with the number of orders under the cut of the
-/// link between the two hubs.
+/// link between the two outer nodes.
 const DRILLS: [(u8, usize); 12] = [
     (1, 8),
     (2, 12),
@@ -50,7 +50,7 @@ pub fn cases(random: &mut Random) -> Vec<Case> {
     scripts.into_iter().map(Case::Script).collect()
 }
 
-/// The cut of the link between the two hubs, which is the last one.
+/// The cut of the link between the two outer nodes, which is the last one.
 fn heaviest(random: &mut Random) -> Vec<Script> {
     let mut scripts = Vec::new();
     for (middles, orders) in DRILLS {
