@@ -7,7 +7,7 @@ use std::collections::BTreeSet;
 use reference::corpus::accepted::every_small_mesh;
 use reference::corpus::scripts::grounds::{dense, largest, middle, nsfnet, small};
 use reference::drill;
-use reference::mesh::Mesh;
+use reference::mesh::{Link, Mesh};
 use reference::plan::plan;
 use reference::random::Random;
 use reference::session::{is_under_way, start, Flood, Session, Wavelength, OFFERED, REFUSED};
@@ -141,7 +141,7 @@ fn assert_count(session: &Session, wavelength: Wavelength, seen: &Seen) -> usize
     seen.made
 }
 
-/// Delivers in every one of the orders; gives how often a wavelength rested
+/// Delivers in each of the seven orders; gives how often a wavelength rested
 /// after 2 × L - 4 deliveries.
 fn assert_counts(mesh: &Mesh, cut: u16, random: &mut Random) -> usize {
     let begun = after_cut(mesh, cut);
@@ -161,7 +161,7 @@ fn assert_counts(mesh: &Mesh, cut: u16, random: &mut Random) -> usize {
 }
 
 #[test]
-fn a_drill_takes_4_m_minus_2_deliveries_on_each_wavelength_in_every_order() {
+fn the_last_link_of_a_drill_takes_4_m_minus_2_deliveries_on_each_wavelength_in_ten_orders() {
     let random = &mut Random::new(1);
     for middles in 1..=62 {
         let mesh = drill::mesh(middles);
@@ -190,8 +190,8 @@ fn the_plan_of_a_drill_is_0_and_1_by_turns() {
 }
 
 /// Every flood that some order of deliveries on one wavelength leads to, each
-/// with the number of deliveries; gives how many of them are at rest.
-fn assert_every_order(mesh: &Mesh, cut: u16, wavelength: Wavelength) -> usize {
+/// with the number of deliveries; gives this number for each one at rest.
+fn assert_every_order(mesh: &Mesh, cut: u16, wavelength: Wavelength) -> Vec<usize> {
     let begun = after_cut(mesh, cut);
     let key = |session: &Session| {
         let flood = &session.floods[wavelength];
@@ -199,7 +199,7 @@ fn assert_every_order(mesh: &Mesh, cut: u16, wavelength: Wavelength) -> usize {
     };
     let mut met = BTreeSet::new();
     let mut open = vec![(begun, Seen::default())];
-    let mut rested = 0;
+    let mut rested = Vec::new();
     while let Some((session, mut seen)) = open.pop() {
         let flood = &session.floods[wavelength];
         seen.see(flood);
@@ -209,8 +209,7 @@ fn assert_every_order(mesh: &Mesh, cut: u16, wavelength: Wavelength) -> usize {
         }
         let next = links_in(flood, is_under_way);
         if next.is_empty() {
-            assert_count(&session, wavelength, &seen);
-            rested += 1;
+            rested.push(assert_count(&session, wavelength, &seen));
         }
         for link in next {
             let (mut session, mut seen) = (session.clone(), seen.clone());
@@ -223,13 +222,13 @@ fn assert_every_order(mesh: &Mesh, cut: u16, wavelength: Wavelength) -> usize {
 }
 
 #[test]
-fn every_order_on_the_smallest_drills() {
+fn every_order_after_the_cut_of_the_last_link_of_the_smallest_drills() {
     for middles in 1..=4 {
         let mesh = drill::mesh(middles);
         for wavelength in Wavelength::BOTH {
             // The route can lead over each middle node.
             let rested = assert_every_order(&mesh, 2 * u16::from(middles), wavelength);
-            assert_eq!(rested, usize::from(middles));
+            assert_eq!(rested.len(), usize::from(middles));
         }
     }
 }
@@ -243,13 +242,40 @@ fn every_order_after_every_cut_of_every_planned_mesh_with_up_to_4_nodes() {
         }
         for cut in 0..mesh.count {
             for wavelength in Wavelength::BOTH {
-                assert!(assert_every_order(&mesh, cut, wavelength) > 0);
+                assert!(!assert_every_order(&mesh, cut, wavelength).is_empty());
             }
             cuts += 1;
         }
     }
     // One triangle; three rings of 4, six with a link more, and all pairs.
     assert_eq!(cuts, 3 + 3 * 4 + 6 * 5 + 6);
+}
+
+/// The mesh on which `scripts/messages` tests what `scripts/drill` shows as the
+/// most deliveries in any order.
+#[test]
+fn on_a_mesh_of_five_nodes_some_order_takes_more_than_every_run() {
+    let pairs = [(0, 2), (0, 3), (1, 3), (1, 4), (2, 4), (3, 4)];
+    let link = |(low, high)| Link {
+        low,
+        high,
+        ..Link::ZERO
+    };
+    let mesh = Mesh::new(5, &pairs.map(link));
+    let random = &mut Random::new(5);
+    let (mut runs, mut most) = (Vec::new(), Vec::new());
+    for cut in 0..mesh.count {
+        let run = after_cut(&mesh, cut);
+        deliver_all(run, Order::Lowest, random, |_, wavelength, seen| {
+            if wavelength == Wavelength::One {
+                runs.push(seen.made);
+            }
+        });
+        let all = assert_every_order(&mesh, cut, Wavelength::One);
+        most.extend(all.into_iter().max());
+    }
+    assert_eq!(runs, [6, 6, 6, 6, 4, 2]);
+    assert_eq!(most, [6, 6, 8, 8, 4, 2]);
 }
 
 #[test]
