@@ -38,7 +38,7 @@ pub fn fit(nodes: u8, count: usize, ends: &[u16; 256]) -> bool
     fit
 }
 
-// Whether each entry of the block at `from` is 0 or above the entry before it.
+// Whether each entry of the block at `from` is 0 or not below the entry before it.
 fn rise_within(ends: &[u16; 256], from: usize) -> bool
     requires { ⌜ (1 ≤ from) × (from + 16 ≤ 256) ⌝ }
     ensures { λ r. ⌜ (r ≡ true → (j : ℕ) → j < 16 → Rising (now (ends .entry)) (from + j)) ⌝ }
@@ -48,14 +48,14 @@ fn rise_within(ends: &[u16; 256], from: usize) -> bool
     while j < BLOCK {
         let e = ends[from + j];
         let last = ends[from + j - 1];
-        let rises = (e == 0) | (last < e);
+        let rises = (e == 0) | (last <= e);
         rise = rise & rises;
         j += 1;
     }
     rise
 }
 
-// Whether each of the first entries but entry 0 is 0 or above the entry before it. The last block is whole, so that no entry is tested by
+// Whether each of the first entries but entry 0 is 0 or not below the entry before it. The last block is whole, so that no entry is tested by
 // itself: where there is a fault among entries past the first `count`, it answers false too.
 pub fn rise(count: usize, ends: &[u16; 256]) -> bool
     ensures { λ r. ⌜ (r ≡ true → (i : ℕ) → 0 < i → i < min count 256 → Rising (now (ends .entry)) i) ⌝ }

@@ -6,7 +6,7 @@ use mathlib.Core.Bool.{true}
 use lib.ListN.{length}
 use Rattle.scan.specs.Entry.{has}
 use Rattle.mesh.specs.declared.Answer.the-variants.{Accepted}
-use Rattle.mesh.specs.WellFormed.{After}
+use Rattle.mesh.specs.WellFormed.{NotBelow}
 use Rattle.mesh.specs.Refusal.{EndsFault}
 use Rattle.formed.specs.WellFormed.{Bounded}
 use Rattle.legacy.specs.declared.OldLink.{OldLink}
@@ -29,7 +29,7 @@ pub record InRange (m : OldMesh) : Type 0 where
 
 -- ---- what is accepted
 
--- 2 to 64 nodes, 0 to 256 links; the ends of each are two nodes, the low one first, and its pair stands after that of the link before; entries past the last
+-- 2 to 64 nodes, 0 to 256 links; the ends of each are two nodes, the low one first, and its pair is not below that of the link before; entries past the last
 -- link are all zero
 pub record WellFormed (m : OldMesh) : Type 0 where
   pub nodes-least : 2 ≤ m .nodes
@@ -37,7 +37,7 @@ pub record WellFormed (m : OldMesh) : Type 0 where
   pub count-most : m .count ≤ 256
   pub apart : (i : ℕ) → i < m .count → link m i .low < link m i .high
   pub inside : (i : ℕ) → i < m .count → link m i .high < m .nodes
-  pub rises : (i : ℕ) → i + 1 < m .count → After (link m i .low) (link m i .high) (link m (i + 1) .low) (link m (i + 1) .high)
+  pub rises : (i : ℕ) → i + 1 < m .count → NotBelow (link m i .low) (link m i .high) (link m (i + 1) .low) (link m (i + 1) .high)
   pub zeros : (i : ℕ) → m .count ≤ i → link m i ≡ zeroLink
 
 -- no direction is above 1 and no state above 4, entries past the last link are zero, the cut is a link or none, and each reached node is below N
@@ -50,7 +50,7 @@ pub record Formed (s : OldSession) : Type 0 where
 
 -- ---- what is refused
 
--- the link before link i; (0, 0) stands before link 0, and before every pair with low < high
+-- the link before link i; (0, 0) stands before link 0, and no pair is below it
 abbrev pub previous : OldMesh → ℕ → OldLink
 previous m zero = zeroLink
 previous m (suc i) = link m i

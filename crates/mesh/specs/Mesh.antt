@@ -51,9 +51,9 @@ nodesFit n = leb 2 n && leb n 64
 abbrev pub countFits : ℕ → Bool
 countFits k = leb k 256
 
--- the pair (low, high) stands after the pair (plow, phigh)
+-- the order test: the pair (low, high) is not below the pair (plow, phigh); equal pairs may stand (02, request 7)
 abbrev pub follows : ℕ → ℕ → ℕ → ℕ → Bool
-follows plow phigh low high = ltb plow low || (eqb plow low && ltb phigh high)
+follows plow phigh low high = ltb plow low || (eqb plow low && leb phigh high)
 
 -- a link with these ends after one with the ends plow and phigh, in a mesh of n nodes: 7, 6, 8
 unfoldable pub endsAnswer : ℕ → ℕ → ℕ → ℕ → ℕ → ℕ → Answer

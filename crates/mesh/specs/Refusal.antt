@@ -1,12 +1,17 @@
 -- The refusals of a mesh, each with its condition (01, "Refusals from the input" and "Order"). Definitions only.
 use Prim.Native.Nat.{ℕ, _<_, _≤_}
-use mathlib.Core.Logic.{_≢_}
+use mathlib.Core.Path.{_≡_}
+use mathlib.Core.Logic.{_⊎_, _≢_}
 use mathlib.Core.List.{_∷_}
 use lib.ListN.{getD}
 use Rattle.mesh.specs.declared.Link.{Link}
 use Rattle.mesh.specs.declared.Mesh.{Mesh}
 use Rattle.mesh.specs.Mesh.{zeroLink}
-use Rattle.mesh.specs.WellFormed.{link, duct, After, Joins, Rises}
+use Rattle.mesh.specs.WellFormed.{link, duct, Joins, Rises}
+
+-- the pair (low, high) is below the pair (plow, phigh)
+abbrev pub Below : ℕ → ℕ → ℕ → ℕ → Type 0
+Below plow phigh low high = (low < plow) ⊎ ((low ≡ plow) × (high < phigh))
 
 -- a link with the ends low and high after one with the ends plow and phigh, in a mesh of n nodes: its fault by number
 pub data EndsFault (n plow phigh low high : ℕ) : ℕ → Type 0 where
@@ -14,8 +19,8 @@ pub data EndsFault (n plow phigh low high : ℕ) : ℕ → Type 0 where
   low-not-below-high : high ≤ low → EndsFault n plow phigh low high 7
   -- 6 an end not below N
   end-not-below-nodes : low < high → ((low < n) × (high < n) → ⊥) → EndsFault n plow phigh low high 6
-  -- 8 pair not after the previous
-  pair-not-after : low < high → high < n → (After plow phigh low high → ⊥) → EndsFault n plow phigh low high 8
+  -- 8 pair below the previous (02, request 7)
+  pair-below : low < high → high < n → Below plow phigh low high → EndsFault n plow phigh low high 8
 
 -- the fault of the link l after the link p
 abbrev pub LinkFault : ℕ → Link → Link → ℕ → Type 0
@@ -25,7 +30,7 @@ LinkFault n p l number = EndsFault n (p .low) (p .high) (l .low) (l .high) numbe
 abbrev pub Faultless : ℕ → Link → Link → Type 0
 Faultless n p l = Joins n l × Rises p l
 
--- the link before link i; the zero link stands before link 0, and its pair (0, 0) before every pair with low < high
+-- the link before link i; the zero link stands before link 0, and no pair is below its pair (0, 0)
 abbrev pub previous : Mesh → ℕ → Link
 previous m i = getD (zeroLink ∷ m .links) i zeroLink
 

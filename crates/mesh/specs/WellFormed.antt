@@ -25,15 +25,15 @@ pub record Joins (n : ℕ) (l : Link) : Type 0 where
   pub apart : l .low < l .high
   pub inside : l .high < n
 
--- the pair (low, high) stands after the pair (plow, phigh)
-abbrev pub After : ℕ → ℕ → ℕ → ℕ → Type 0
-After plow phigh low high = (plow < low) ⊎ ((plow ≡ low) × (phigh < high))
+-- the pair (low, high) is not below the pair (plow, phigh): it stands after it in the order of (low, high), or is the same
+abbrev pub NotBelow : ℕ → ℕ → ℕ → ℕ → Type 0
+NotBelow plow phigh low high = (plow < low) ⊎ ((plow ≡ low) × (phigh ≤ high))
 
--- the pair of l stands after the pair of p
+-- the pair of l is not below the pair of p
 abbrev pub Rises : Link → Link → Type 0
-Rises p l = After (p .low) (p .high) (l .low) (l .high)
+Rises p l = NotBelow (p .low) (p .high) (l .low) (l .high)
 
--- 2 to 64 nodes, 0 to 256 links in strictly rising order of (low, high), entries past the last link all zero
+-- 2 to 64 nodes, 0 to 256 links in rising order of (low, high), where a pair may stand several times (02, request 7), entries past the last link all zero
 pub record WellFormed (m : Mesh) : Type 0 where
   pub nodes-least : 2 ≤ m .nodes
   pub nodes-most : m .nodes ≤ 64

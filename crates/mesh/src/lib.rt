@@ -79,7 +79,7 @@ pub fn count_fits(k: u16) -> bool
     k <= 256
 }
 
-// The order test: whether the pair (low, high) stands after the pair (plow, phigh).
+// The order test: whether the pair (low, high) is not below the pair (plow, phigh).
 pub fn follows(plow: usize, phigh: usize, low: usize, high: usize) -> bool
     ensures { λ r. ⌜ r ≡ Rattle.mesh.specs.Mesh.follows plow phigh low high ⌝ }
 {
@@ -87,7 +87,7 @@ pub fn follows(plow: usize, phigh: usize, low: usize, high: usize) -> bool
         return true;
     }
     if plow == low {
-        return phigh < high;
+        return phigh <= high;
     }
     false
 }

@@ -11,9 +11,10 @@ use Rattle.mesh.specs.declared.Mesh.{Mesh}
 use Rattle.mesh.specs.declared.Answer.the-variants.{Accepted}
 use Rattle.mesh.specs.Mesh.{zeroLink, meshAnswer}
 use Rattle.mesh.specs.WellFormed.{link, Rises, WellFormed}
-use Rattle.mesh.specs.Refusal.{LinkFault, low-not-below-high, end-not-below-nodes, pair-not-after, Faultless, previous}
+use Rattle.mesh.specs.Refusal.{LinkFault, low-not-below-high, end-not-below-nodes, pair-below, Faultless, previous}
 use Rattle.mesh.specs.Refusal.{Refusal, nodes-unfit, count-unfit, first-fault, entry-not-zero, duct-not-zero}
 use Rattle.mesh.specs.Laws.Answer.{Tells, told-accepted, tells-accepted}
+use Rattle.mesh.specs.Laws.Ends.{not-both}
 use Rattle.mesh.specs.Laws.Refused.{Sound, mesh-told}
 
 pub sound : (m : Mesh) → meshAnswer m ≡ Accepted → Sound m
@@ -45,19 +46,19 @@ passes m e = record {
       | no l ↦ rw (List·getD-eq-default (m .links) zeroLink {n = i} (omega arith)) (omega (arith, s .nodes .0), omega (arith, s .nodes .0))
     ]
 
--- every pair with low < high stands after (0, 0)
-rises-zero : (l : Link) → l .low < l .high → Rises zeroLink l
-rises-zero l h = elim (decLt 0 (l .low)) [ yes b ↦ inl b | no b ↦ inr (omega arith, omega arith) ]
+-- no pair is below (0, 0)
+rises-zero : (l : Link) → Rises zeroLink l
+rises-zero l = elim (decLt 0 (l .low)) [ yes b ↦ inl b | no b ↦ inr (omega arith, omega arith) ]
 
 -- no link both has a fault and has none
 pub no-fault : (n : ℕ) (p l : Link) (number : ℕ) → Faultless n p l → LinkFault n p l number → ⊥
 no-fault n p l number (j, r) (low-not-below-high a) = omega arith
 no-fault n p l number (j, r) (end-not-below-nodes a f) = f (omega arith, j .inside)
-no-fault n p l number (j, r) (pair-not-after a b f) = f r
+no-fault n p l number (j, r) (pair-below a b f) = not-both (p .low) (p .high) (l .low) (l .high) r f
 
 module _ (m : Mesh) (w : WellFormed m) where
   rises-previous : (i : ℕ) → i < m .count → Rises (previous m i) (link m i)
-  rises-previous zero h = rises-zero (link m 0) (w .joins 0 h .apart)
+  rises-previous zero h = rises-zero (link m 0)
   rises-previous (suc i) h = rw (add-one i) at (w .rises i (omega arith))
 
   -- no refusal's condition holds of a well-formed mesh

@@ -1,21 +1,39 @@
 -- What the answer on the ends of a link tells: none of 01's faults 7, 6 and 8, or which one. Assumes nothing.
 use Prim.Native.Nat.{ℕ, _<_}
 use mathlib.Core.Path.{_≡_, refl, subst}
-use mathlib.Core.Logic.{_↔_}
+use mathlib.Core.Logic.{_↔_, inl, inr}
 use mathlib.Core.Bool.{true, _&&_}
+use native.Mathlib.Decide.{decLt}
 use native.Mathlib.Omega.{arith}
 use lib.Dec.{ltb}
 use borrow.Author.Tests.{ltb-true, ltb-false, lt-ltb}
-use Rattle.scan.specs.Test.{branch, fails, Says, lt-says, eq-says, and-says, or-says}
+use Rattle.scan.specs.Test.{branch, fails, Says, lt-says, le-says, eq-says, and-says, or-says}
 use Rattle.mesh.specs.declared.Answer.{Answer}
 use Rattle.mesh.specs.declared.Answer.the-variants.{Accepted}
 use Rattle.mesh.specs.Mesh.{follows, endsAnswer}
-use Rattle.mesh.specs.WellFormed.{After}
-use Rattle.mesh.specs.Refusal.{EndsFault, low-not-below-high, end-not-below-nodes, pair-not-after}
+use Rattle.mesh.specs.WellFormed.{NotBelow}
+use Rattle.mesh.specs.Refusal.{Below, EndsFault, low-not-below-high, end-not-below-nodes, pair-below}
 use Rattle.mesh.specs.Laws.Answer.{Tells, accepting, refusing, told-accepted}
 
-pub follows-says : (plow phigh low high : ℕ) → Says (follows plow phigh low high) (After plow phigh low high)
-follows-says plow phigh low high = or-says (lt-says plow low) (and-says (eq-says plow low) (lt-says phigh high))
+module _ (plow phigh low high : ℕ) where
+  pub follows-says : Says (follows plow phigh low high) (NotBelow plow phigh low high)
+  follows-says = or-says (lt-says plow low) (and-says (eq-says plow low) (le-says phigh high))
+
+  -- a pair is below another, or it is not
+  below : (NotBelow plow phigh low high → ⊥) → Below plow phigh low high
+  below f = elim (decLt low plow) [
+    | yes h ↦ inl h
+    | no h ↦ elim (decLt plow low) [
+      | yes l ↦ absurd (f (inl l))
+      | no l ↦ inr (omega arith, elim (decLt high phigh) [ yes g ↦ g | no g ↦ absurd (f (inr (omega arith, omega arith))) ])
+    ]
+  ]
+
+  pub not-both : NotBelow plow phigh low high → Below plow phigh low high → ⊥
+  not-both (inl h) (inl l) = omega arith
+  not-both (inl h) (inr (e, l)) = omega arith
+  not-both (inr (e, h)) (inl l) = omega arith
+  not-both (inr (e, h)) (inr (q, l)) = omega arith
 
 module _ (n plow phigh low high place : ℕ) where
   abbrev Told : Answer → Type 0
@@ -32,7 +50,7 @@ module _ (n plow phigh low high place : ℕ) where
       (λ a. branch Told (ltb low n && ltb high n)
       (λ b. branch Told (follows plow phigh low high)
       (λ c. accepting (ltb-true _ _ a, inside .0 b .1, c))
-      (λ c. refusing (pair-not-after (ltb-true _ _ a) (inside .0 b .1) (fails (follows-says plow phigh low high) c), refl)))
+      (λ c. refusing (pair-below (ltb-true _ _ a) (inside .0 b .1) (below plow phigh low high (fails (follows-says plow phigh low high) c)), refl)))
       (λ b. refusing (end-not-below-nodes (ltb-true _ _ a) (fails inside b), refl)))
       (λ a. refusing (low-not-below-high (ltb-false _ _ a), refl))
     where

@@ -44,15 +44,15 @@ module _ (n : ℕ) (ends : List ℕ) (k i : ℕ) where
 
 -- ---- the quick test
 
--- an entry is accepted whose low end is below its high end, that a node, and which is above the entry before it
+-- an entry is accepted whose low end is below its high end, that a node, and which is not below the entry before it
 module _ (n : ℕ) (ends : List ℕ) (i : ℕ) (fits : Fits n ends i) where
-  above-accepted : at (0 ∷ ends) i < at ends i → entryAnswer n ends i ≡ Accepted
-  above-accepted h = ends-accepted n _ _ _ _ i .1 (fits .0, fits .1, follows-says _ _ _ _ .1 after)
+  risen-accepted : at (0 ∷ ends) i ≤ at ends i → entryAnswer n ends i ≡ Accepted
+  risen-accepted h = ends-accepted n _ _ _ _ i .1 (fits .0, fits .1, follows-says _ _ _ _ .1 after)
     where
       p : ℕ
       p = at (0 ∷ ends) i
 
-      after : (p / 256 < at ends i / 256) ⊎ ((p / 256 ≡ at ends i / 256) × (p % 256 < at ends i % 256))
+      after : (p / 256 < at ends i / 256) ⊎ ((p / 256 ≡ at ends i / 256) × (p % 256 ≤ at ends i % 256))
       after = elim (decLt (p / 256) (at ends i / 256)) [ yes l ↦ inl l | no l ↦ inr (omega arith, omega arith) ]
 
 -- where each entry is, all are
@@ -61,11 +61,11 @@ unfolding entriesAnswer
 quick-accepted n k ends fit rise = from 0 k (omega arith)
   where
     each : (i : ℕ) → i < k → entryAnswer n ends i ≡ Accepted
-    each zero h = let (a, b) = fit 0 h in above-accepted n ends 0 (a, b) (omega arith)
+    each zero h = let (a, b) = fit 0 h in risen-accepted n ends 0 (a, b) (omega arith)
     each (suc i) h =
         let (a, b) = fit (suc i) h in
         let e : suc i - 1 ≡ i = omega arith in
-        above-accepted n ends (suc i) (a, b) (rw e at (rise (suc i) (omega arith) h (omega arith)))
+        risen-accepted n ends (suc i) (a, b) (rw e at (rise (suc i) (omega arith) h (omega arith)))
 
     from : (i d : ℕ) → i + d ≡ k → entriesAnswer n ends i d ≡ Accepted
     from i zero e = refl
