@@ -1,5 +1,6 @@
 -- How many deliveries a wavelength has had since the cut: what the states of its links tell, exactly two for each link ever offered less one for each of its
--- route at rest, and never more than 2 × L - 4, since no other link joins the ends of the cut one. Assumes 256 entries in the mesh's list of links.
+-- route at rest, never more than 2 × L - 3, and never more than 2 × L - 4 where no other link joins the ends of the cut one. Assumes 256 entries in the mesh's
+-- list of links.
 use Prim.Native.Nat.{ℕ, _+_, _*_, _<_, _≤_}
 use mathlib.Core.Path.{_≡_, sym, ap, _∙_}
 use mathlib.Core.Logic.{_≢_}
@@ -16,7 +17,7 @@ use Rattle.flood.specs.Machine.{atRest, offeredLinks}
 use Rattle.flood.specs.Laws.Progress.{Progress}
 use Rattle.flood.specs.Laws.Bound.{rest-offered-each}
 use Rattle.flood.specs.Laws.Route.{rest-exactly}
-use Rattle.flood.specs.Laws.Cut.{cut-made-4}
+use Rattle.flood.specs.Laws.Cut.{cut-made-3, cut-made-4}
 use Rattle.wavelengths.specs.declared.Wavelength.{Wavelength}
 use Rattle.wavelengths.specs.declared.Wavelength.the-variants.{First, Second}
 use Rattle.wavelengths.specs.Wavelength.{on}
@@ -24,9 +25,8 @@ use Rattle.wavelengths.specs.Merge.{linksOn}
 use Rattle.mesh.specs.declared.Mesh.{Mesh}
 use Rattle.mesh.specs.declared.Plan.{Plan}
 use Rattle.mesh.specs.declared.Answer.the-variants.{Accepted}
-use Rattle.mesh.specs.WellFormed.{link, WellFormed}
+use Rattle.mesh.specs.WellFormed.{WellFormed}
 use Rattle.mesh.specs.Laws.Checked.{well-formed}
-use Rattle.nets.specs.Laws.Fits.{simple}
 use Rattle.planner.specs.Plan.{planned}
 use Rattle.planner.specs.Laws.Meaning.{plan-checked}
 use Rattle.topology.specs.Backup.{backupOn}
@@ -37,21 +37,13 @@ use Rattle.history.specs.History.{Call}
 use Rattle.history.specs.Log.{deliveriesOn}
 use Rattle.history.specs.Rules.{start}
 use Rattle.history.specs.Offered.{noneOffered, offered}
-use Rattle.history.specs.Demand.{AtRest, hadOn, digraphOn, ended, log, offeredOn}
+use Rattle.history.specs.Demand.{AtRest, hadOn, digraphOn, ended, log, offeredOn, OnlyLink}
 use Rattle.history.specs.Laws.Kept.{cutSession, played, kept-cut}
 use Rattle.history.specs.Laws.Started.{sound, progress, ended-kept}
 use Rattle.history.specs.Laws.Routed.{rest-seen, route-found}
 use Rattle.history.specs.Laws.Offered.{ended-marks}
 
 -- ---- links between the same nodes
-
--- no other link joins the ends of link k
-abbrev OnlyLink : Mesh → ℕ → Type 0
-OnlyLink m k = (i : ℕ) → i < m .count → (link m i .low ≡ link m k .low) × (link m i .high ≡ link m k .high) → i ≡ k
-
--- the pairs of ends rise, so that no two links have the same
-only-link : {m : Mesh} → WellFormed m → (k : ℕ) → k < m .count → OnlyLink m k
-only-link W k h i l (low, high) = simple W i k false false l h low high .0
 
 -- two links of which one leads from where the other ends to where it starts have the same ends; d and e tell whether the back-up arc starts at the high end
 turned : (d e : Bool) {low high low′ high′ : ℕ} → low < high → low′ < high′
@@ -65,7 +57,7 @@ module _ {m : Mesh} (W : WellFormed m) (p : Plan) {k : ℕ} (k< : k < m .count) 
   abbrev high-first : ℕ → Bool
   high-first i = eqb (at (p .directions) i) 0
 
-  -- so no other leads straight from x to y, on either wavelength
+  -- where no other link joins the ends of link k, none leads straight from x to y, on either wavelength
   none-straight : (w : Wavelength) (i : ℕ) → i < m .count → i ≢ k → backupOn w m p .tail i ≡ backupOn w m p .head k → backupOn w m p .head i ≢ backupOn w m p .tail k
   none-straight First i l other t h = other (only i l (turned (high-first i) (high-first k) (W .joins i l .apart) (W .joins k k< .apart) t h))
   none-straight Second i l other t h = other (only i l (turned (high-first i) (high-first k) (W .joins i l .apart) (W .joins k k< .apart) h t))
@@ -104,14 +96,20 @@ module _ (m : Mesh) (sized : length (m .links) ≡ 256) (good : planned m .answe
       (λ k ts q w r. (length (linksOn w ts), progress m good sized q w, rest-seen (cutSession m (planned m .plan) k (played m (planned m .plan) k ts)) w r))
       (ended-kept m good sized calls)
 
-  -- never more than 2 × L - 4
-  pub made-most : (k : ℕ) → log m calls .cut ≡ Link k → (w : Wavelength) → deliveriesOn w (log m calls) + 4 ≤ 2 * m .count
+  -- never more than 2 × L - 3
+  pub made-most : (k : ℕ) → log m calls .cut ≡ Link k → (w : Wavelength) → deliveriesOn w (log m calls) + 3 ≤ 2 * m .count
   made-most =
-      kept-cut m (planned m .plan) (λ s k ts. (w : Wavelength) → length (linksOn w ts) + 4 ≤ 2 * m .count)
-      (λ k ts q w.
+      kept-cut m (planned m .plan) (λ s k ts. (w : Wavelength) → length (linksOn w ts) + 3 ≤ 2 * m .count)
+      (λ k ts q w. cut-made-3 (q .link) (progress m good sized q w) (sound m good sized q w))
+      (ended-kept m good sized calls)
+
+  -- nor than 2 × L - 4 under the cut of a link by itself
+  pub made-most-only : (k : ℕ) → log m calls .cut ≡ Link k → OnlyLink m k → (w : Wavelength) → deliveriesOn w (log m calls) + 4 ≤ 2 * m .count
+  made-most-only =
+      kept-cut m (planned m .plan) (λ s k ts. OnlyLink m k → (w : Wavelength) → length (linksOn w ts) + 4 ≤ 2 * m .count)
+      (λ k ts q only w.
       let W = well-formed m sized (plan-checked m good) in
-      cut-made-4 (q .link) (progress m good sized q w) (sound m good sized q w)
-      (none-straight W (planned m .plan) (q .link) (only-link W k (q .link)) w))
+      cut-made-4 (q .link) (progress m good sized q w) (sound m good sized q w) (none-straight W (planned m .plan) (q .link) only w))
       (ended-kept m good sized calls)
 
 -- in every order the same links are offered, and so as many
