@@ -2,4 +2,5 @@ pub mod Computed
 pub mod DuctsComputed
 pub mod CollectionComputed
 pub mod DrillComputed
+pub mod DoubledComputed
 pub mod Same

@@ -3,4 +3,5 @@ pub mod Bench
 pub mod DuctBench
 pub mod CollectionBench
 pub mod DrillBench
+pub mod DoubledBench
 pub mod Laws

@@ -12,8 +12,8 @@ use Rattle.scan.specs.Total.{bit, count}
 use Rattle.scan.specs.Bytes.{AreBytes}
 use Rattle.mesh.specs.declared.Mesh.{Mesh}
 use Rattle.mesh.specs.declared.Answer.the-variants.{Accepted, Refused}
-use Rattle.mesh.specs.Mesh.{zeroMesh, meshAnswer}
-use Rattle.mesh.specs.WellFormed.{WellFormed, InRange, link, duct, SameEnds}
+use Rattle.mesh.specs.Mesh.{zeroMesh, follows, meshAnswer}
+use Rattle.mesh.specs.WellFormed.{WellFormed, InRange, link, duct, SameEnds, OnlyLink}
 use Rattle.mesh.specs.Refusal.{Refusal, previous}
 use Rattle.mesh.specs.Laws.Checked.{checks}
 use Rattle.mesh.specs.Laws.Refused.{refused-only}
@@ -57,7 +57,7 @@ use Rattle.history.specs.Laws.Routed.{demand-route}
 use Rattle.history.specs.Laws.Measured.{demand-length}
 use Rattle.history.specs.Laws.Undisturbed.{undisturbed, runs-alone}
 use Rattle.history.specs.Laws.Unhindered.{runs-out}
-use Rattle.history.specs.Laws.Counted.{had-made, made-exactly, made-most, offered-same}
+use Rattle.history.specs.Laws.Counted.{had-made, made-exactly, made-most, made-all, made-most-only, offered-same}
 use Rattle.history.specs.Laws.EverOffered.{offered-ever}
 use Rattle.ducts.specs.Sharing.{sharing, shared}
 use Rattle.ducts.specs.Sharing as ducts
@@ -105,13 +105,21 @@ use Rattle.heaviest.specs.Laws.Input.{asked-names, refused-names, asked-take}
 use Rattle.heaviest.specs.Laws.Drill.{drill-of, drill-none, drill-accepted, drill-in-range}
 use Rattle.drilled.specs.Shape.{alternating}
 use Rattle.drilled.specs.Laws.Plan.{drill-planned}
-use Rattle.drilled.specs.Laws.Calls.{drill-calls, two-links}
+use Rattle.drilled.specs.Laws.Calls.{outer-only, drill-calls, two-links}
+use Rattle.earlier.specs.Ordered.{strictlyFollows, meshAnswerBy, decodedBy, plannedBy}
+use Rattle.earlier.specs.Laws.Now.{mesh-now, decoded-now, planned-now}
+use Rattle.earlier.specs.Laws.Earlier.{mesh-still, mesh-exactly, decoded-still, planned-still}
+use Rattle.doubled.specs.Laws.Bridge.{joined-without, never-parts}
+use Rattle.doubled.specs.Laws.TwoPlan.{two-planned}
+use Rattle.doubled.specs.Laws.TwoCalls.{two-calls, two-route}
 use Rattle.guarantees.specs.DuctBench as ductRows
 use Rattle.guarantees.specs.Laws.DuctsComputed as ductsComputed
 use Rattle.guarantees.specs.CollectionBench as collectionRows
 use Rattle.guarantees.specs.Laws.CollectionComputed as collectionComputed
 use Rattle.guarantees.specs.DrillBench as drillRows
 use Rattle.guarantees.specs.Laws.DrillComputed as drillComputed
+use Rattle.guarantees.specs.DoubledBench as doubledRows
+use Rattle.guarantees.specs.Laws.DoubledComputed as doubledComputed
 use Rattle.guarantees.specs.Laws.Computed.{row-holds}
 
 -- ---- the mesh checks (contract: crates/mesh/src/lib.rt, `check`)
@@ -474,10 +482,19 @@ pub deliveries-same : (m : Mesh) → InRange m → planned m .answer ≡ Accepte
     × (offeredOn m calls w ≡ offeredOn m others w)
 deliveries-same m r = offered-same m (r .entries)
 
--- at any time, at rest or not, it has had at most 2 × L - 4: no other link joins the ends of the cut one, so that every route has two links or more
+-- at any time, at rest or not, it has had at most 2 × L - 3 (02, request 7), and after so many nothing is under way on it
 pub deliveries-most : (m : Mesh) → InRange m → planned m .answer ≡ Accepted → (calls : List Call) (k : ℕ)
-    → log m calls .cut ≡ Link k → (w : Wavelength) → deliveriesOn w (log m calls) + 4 ≤ 2 * m .count
+    → log m calls .cut ≡ Link k → (w : Wavelength) → deliveriesOn w (log m calls) + 3 ≤ 2 * m .count
 deliveries-most m r = made-most m (r .entries)
+
+pub deliveries-all : (m : Mesh) → InRange m → planned m .answer ≡ Accepted → (calls : List Call) (k : ℕ)
+    → log m calls .cut ≡ Link k → (w : Wavelength) → deliveriesOn w (log m calls) + 3 ≡ 2 * m .count → AtRest (ended m calls) w
+deliveries-all m r = made-all m (r .entries)
+
+-- and at most 2 × L - 4 where no other link joins the ends of the cut one, so that every route has two links or more
+pub deliveries-single : (m : Mesh) → InRange m → planned m .answer ≡ Accepted → (calls : List Call) (k : ℕ)
+    → log m calls .cut ≡ Link k → OnlyLink m k → (w : Wavelength) → deliveriesOn w (log m calls) + 4 ≤ 2 * m .count
+deliveries-single m r = made-most-only m (r .entries)
 
 -- ---- 02, request 6: the heaviest drill (contracts: crates/heaviest/src/lib.rt, `read` and `drill`)
 
@@ -512,8 +529,12 @@ module _ (m : ℕ) (some : 1 ≤ m) (most : m ≤ 62) where
   pub drill-plan : planned (drill m) ≡ record { plan = padded (alternating (2 * m + 1)); answer = Accepted }
   drill-plan = drill-planned m some most
 
+  -- no other link joins the ends of its last one
+  pub drill-single : OnlyLink (drill m) (2 * m)
+  drill-single = outer-only m some most
+
   -- while the cut of its last link stands, after any list of calls: a wavelength is at rest exactly after 4 × m - 2 deliveries of its own, on wavelength 1 and on
-  -- wavelength 2. It comes to rest in every order: by `demand-three` a further delivery is accepted while a link is under way, and by `deliveries-most` there
+  -- wavelength 2. It comes to rest in every order: by `demand-three` a further delivery is accepted while a link is under way, and by `deliveries-single` there
   -- are never more than these
   pub drill-deliveries : (calls : List Call) → log (drill m) calls .cut ≡ Link (2 * m) → (w : Wavelength)
       → AtRest (ended (drill m) calls) w ↔ (deliveriesOn w (log (drill m) calls) ≡ 4 * m - 2)
@@ -524,13 +545,66 @@ module _ (m : ℕ) (some : 1 ≤ m) (most : m ≤ 62) where
       → AtRest (ended (drill m) calls) w → length (recovery.routeOf (ended (drill m) calls) w) ≡ 2
   drill-route = two-links m some most
 
-  -- 4 × m - 2 is 2 × L - 4: the bound of `deliveries-most` is reached
+  -- 4 × m - 2 is 2 × L - 4: the bound of `deliveries-single` is reached
   pub drill-reaches : 4 * m - 2 ≡ 2 * drill m .count - 4
   drill-reaches = omega arith
 
 -- P1's book and that of two middle nodes, inputs of each kind, and the links ever offered on the drill with two middle nodes, by the rules
 pub drill-bench : drillRows.Holds
 drill-bench = drillComputed.computed
+
+-- ---- 02, request 7: two fibres between the same nodes. What stands above of the mesh checks, the book, the plan, the calls, the carry-over, the duct query and the
+-- collection route is for meshes with any number of links between the same nodes
+
+-- the checks, reading and planning by an order test on neighbouring pairs: by the test of now they are the library's
+pub ordered-now :
+    ((m : Mesh) → meshAnswerBy follows m ≡ meshAnswer m)
+    × ((s : List ℕ) → decodedBy follows s ≡ decoded s)
+    × ((m : Mesh) → plannedBy follows m ≡ planned m)
+ordered-now = (mesh-now, decoded-now, planned-now)
+
+-- a book that was accepted by the test from before is read as the same mesh
+pub earlier-books : (s : List ℕ) → decodedBy strictlyFollows s .answer ≡ Accepted → decoded s ≡ decodedBy strictlyFollows s
+earlier-books = decoded-still
+
+-- a mesh that passed the checks by that test passes them, and planning gives it the plan, or the refusal, that it gave
+pub earlier-plans : (m : Mesh) → meshAnswerBy strictlyFollows m ≡ Accepted → (meshAnswer m ≡ Accepted) × (planned m ≡ plannedBy strictlyFollows m)
+earlier-plans m e = (mesh-still m e, planned-still m e)
+
+-- these meshes are exactly those that pass now and in which no two links have the same ends
+pub earlier-meshes : (m : Mesh) → InRange m → (meshAnswerBy strictlyFollows m ≡ Accepted) ↔ ((meshAnswer m ≡ Accepted) × ((k : ℕ) → k < m .count → OnlyLink m k))
+earlier-meshes m r = mesh-exactly m (r .entries)
+
+-- where links i and k have the same ends, the removal of k parts no mesh, and planning does not refuse it with 21 at k
+module _ (m : Mesh) (i k : ℕ) (inside : i < m .count) (other : i ≢ k) (low : link m i .low ≡ link m k .low) (high : link m i .high ≡ link m k .high) where
+  pub doubled-joined : Strong (netOf m) bothWays → Strong (netOf m) (without k bothWays)
+  doubled-joined = joined-without (netOf m) inside other low high
+
+  pub doubled-no-bridge : meshAnswer m ≡ Accepted → planned m .answer ≢ Refused 21 k
+  doubled-no-bridge ok = never-parts m ok i k inside other low high
+
+-- two nodes with two links, whatever their lengths, fibre pairs and ducts:
+module _ (m : Mesh) (r : InRange m) (ok : meshAnswer m ≡ Accepted) (nodes : m .nodes ≡ 2) (links : m .count ≡ 2) where
+  -- the plan is 0 1: the span runs both ways
+  pub two-nodes-plan : planned m ≡ record { plan = padded (0 ∷ 1 ∷ []); answer = Accepted }
+  two-nodes-plan = two-planned m (r .entries) ok nodes links
+
+  -- whichever link is cut, after any list of calls a wavelength is at rest exactly after one delivery of its own, which is 2 × L - 3, and its route is the other
+  -- link. It comes to rest in every order: by `demand-three` a delivery is accepted while a link is under way, and by `deliveries-most` there is never a second
+  pub two-nodes-deliveries : (calls : List Call) (k : ℕ) → log m calls .cut ≡ Link k → (w : Wavelength)
+      → AtRest (ended m calls) w ↔ (deliveriesOn w (log m calls) ≡ 1)
+  two-nodes-deliveries = two-calls m (r .entries) ok nodes links
+
+  pub two-nodes-route : (calls : List Call) (k : ℕ) → log m calls .cut ≡ Link k → (w : Wavelength)
+      → AtRest (ended m calls) w → recovery.routeOf (ended m calls) w ≡ (1 - k) ∷ []
+  two-nodes-route = two-route m (r .entries) ok nodes links
+
+  pub two-nodes-reach : 1 ≡ 2 * m .count - 3
+  two-nodes-reach = omega arith
+
+-- books, plans and collection routes of small meshes with doubled and tripled spans, and pairs below the previous one
+pub doubled-bench : doubledRows.Holds
+doubled-bench = doubledComputed.computed
 
 -- ---- 01's bench examples marked P
 

@@ -18,7 +18,7 @@ use Rattle.wavelengths.specs.declared.Wavelength.{Wavelength}
 use Rattle.wavelengths.specs.Wavelength.{numberOf, on}
 use Rattle.mesh.specs.declared.Mesh.{Mesh}
 use Rattle.mesh.specs.declared.Answer.the-variants.{Accepted}
-use Rattle.mesh.specs.WellFormed.{link, lengths}
+use Rattle.mesh.specs.WellFormed.{lengths}
 use Rattle.planner.specs.Plan.{planned}
 use Rattle.formed.specs.declared.Cut.{Cut}
 use Rattle.formed.specs.declared.Cut.the-variants.{Nothing, Link}
@@ -160,10 +160,6 @@ module _ (m : Mesh) (calls : List Call) where
   pub record Demand3 : Type 0 where
     pub starts : started m (planned m .plan) .answer ≡ Accepted
     pub holds : DemandFrom m (startedOn m) start emptyLog calls
-
--- no other link joins the ends of link k of m (02, request 7)
-abbrev pub OnlyLink : Mesh → ℕ → Type 0
-OnlyLink m k = (i : ℕ) → i < m .count → (link m i .low ≡ link m k .low) × (link m i .high ≡ link m k .high) → i ≡ k
 
 -- ---- the wavelengths do not disturb each other
 

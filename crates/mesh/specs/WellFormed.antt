@@ -63,3 +63,7 @@ pub record SameEnds (m m′ : Mesh) : Type 0 where
   pub count : m .count ≡ m′ .count
   pub low : (i : ℕ) → i < m .count → link m i .low ≡ link m′ i .low
   pub high : (i : ℕ) → i < m .count → link m i .high ≡ link m′ i .high
+
+-- no other link of m joins the ends of link k (02, request 7)
+abbrev pub OnlyLink : Mesh → ℕ → Type 0
+OnlyLink m k = (i : ℕ) → i < m .count → (link m i .low ≡ link m k .low) × (link m i .high ≡ link m k .high) → i ≡ k

@@ -9,9 +9,11 @@ use lib.ListN.{length}
 use Rattle.wavelengths.specs.declared.Wavelength.{Wavelength}
 use Rattle.wavelengths.specs.Merge.{Turn, linksOn}
 use Rattle.mesh.specs.declared.Answer.the-variants.{Accepted}
+use Rattle.mesh.specs.declared.Link as mesh
 use Rattle.mesh.specs.declared.Plan.{Plan}
+use Rattle.mesh.specs.WellFormed.{OnlyLink}
 use Rattle.heaviest.specs.Drill.{drill}
-use Rattle.heaviest.specs.Laws.Drill.{drill-sized}
+use Rattle.heaviest.specs.Laws.Drill.{Kind, middle, across, kind, middle-link, across-link, drill-sized}
 use Rattle.planner.specs.declared.Planned.{Planned}
 use Rattle.planner.specs.Plan.{planned}
 use Rattle.formed.specs.declared.Cut.the-variants.{Link}
@@ -29,6 +31,14 @@ use Rattle.drilled.specs.Laws.Flood.{path-two, rest-drill}
 module _ (m : ℕ) (some : 0 < m) (most : m ≤ 62) where
   abbrev p : Plan
   p = planned (drill m) .plan
+
+  -- no other link joins the outer nodes
+  pub outer-only : OnlyLink (drill m) (2 * m)
+  outer-only i h (low, high) = by (kind m i h)
+    where
+      by : Kind m i → i ≡ 2 * m
+      by (middle j a l b e) = absurd (omega (arith, low, ap (λ (l : mesh.Link). l .low) (rw e (middle-link m j a l b)), ap (λ (l : mesh.Link). l .low) (across-link m)))
+      by (across e) = e
 
   accepted : planned (drill m) .answer ≡ Accepted
   accepted = ap (λ (r : Planned). r .answer) (drill-planned m some most)

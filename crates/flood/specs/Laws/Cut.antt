@@ -18,7 +18,7 @@ use Rattle.flood.specs.Machine.{Flood, atRest}
 use Rattle.flood.specs.Path.{AnyArc, Strong, SimplePath}
 use Rattle.flood.specs.Laws.Progress.{Progress}
 use Rattle.flood.specs.Laws.Count.{made-most, made-all-rest}
-use Rattle.flood.specs.Laws.Bound.{made-most-but}
+use Rattle.flood.specs.Laws.Bound.{made-most-but, made-all-but-rest}
 use Rattle.flood.specs.Laws.Chain.{one-link, two-links}
 
 -- ---- sound failures
@@ -103,9 +103,16 @@ module _ {g : Digraph} {k : ℕ} (k< : k < g .links) {n : ℕ} {f : Flood} (q : 
   cut-made-rest e = made-all-rest g (cut g k) q (omega (arith, made-most g (cut g k) q, cut-usable g k k<))
 
   module _ (sound : Sound g (cut g k)) where
+    one : (p : List ℕ) → SimplePath g (cut g k) p → 1 ≤ length p
+    one p r = one-link g (r .chain) (sound .apart)
+
     -- there are 3 fewer than twice the links
     pub cut-made-3 : n + 3 ≤ 2 * g .links
-    cut-made-3 = omega (arith, made-most-but g (cut g k) sound 1 (λ p r. one-link g (r .chain) (sound .apart)) q, cut-usable g k k<)
+    cut-made-3 = omega (arith, made-most-but g (cut g k) sound 1 one q, cut-usable g k k<)
+
+    -- and after so many none is under way
+    pub cut-made-3-rest : n + 3 ≡ 2 * g .links → atRest g f ≡ true
+    cut-made-3-rest e = made-all-but-rest g (cut g k) sound 1 one q (omega (arith, cut-usable g k k<))
 
     -- and 4, where no other link leads straight from the head of k to its tail
     pub cut-made-4 : ((i : ℕ) → i < g .links → i ≢ k → g .tail i ≡ g .head k → g .head i ≢ g .tail k) → n + 4 ≤ 2 * g .links

@@ -17,7 +17,7 @@ use Rattle.flood.specs.Machine.{atRest, offeredLinks}
 use Rattle.flood.specs.Laws.Progress.{Progress}
 use Rattle.flood.specs.Laws.Bound.{rest-offered-each}
 use Rattle.flood.specs.Laws.Route.{rest-exactly}
-use Rattle.flood.specs.Laws.Cut.{cut-made-3, cut-made-4}
+use Rattle.flood.specs.Laws.Cut.{cut-made-3, cut-made-3-rest, cut-made-4}
 use Rattle.wavelengths.specs.declared.Wavelength.{Wavelength}
 use Rattle.wavelengths.specs.declared.Wavelength.the-variants.{First, Second}
 use Rattle.wavelengths.specs.Wavelength.{on}
@@ -25,7 +25,7 @@ use Rattle.wavelengths.specs.Merge.{linksOn}
 use Rattle.mesh.specs.declared.Mesh.{Mesh}
 use Rattle.mesh.specs.declared.Plan.{Plan}
 use Rattle.mesh.specs.declared.Answer.the-variants.{Accepted}
-use Rattle.mesh.specs.WellFormed.{WellFormed}
+use Rattle.mesh.specs.WellFormed.{WellFormed, OnlyLink}
 use Rattle.mesh.specs.Laws.Checked.{well-formed}
 use Rattle.planner.specs.Plan.{planned}
 use Rattle.planner.specs.Laws.Meaning.{plan-checked}
@@ -37,10 +37,10 @@ use Rattle.history.specs.History.{Call}
 use Rattle.history.specs.Log.{deliveriesOn}
 use Rattle.history.specs.Rules.{start}
 use Rattle.history.specs.Offered.{noneOffered, offered}
-use Rattle.history.specs.Demand.{AtRest, hadOn, digraphOn, ended, log, offeredOn, OnlyLink}
+use Rattle.history.specs.Demand.{AtRest, hadOn, digraphOn, ended, log, offeredOn}
 use Rattle.history.specs.Laws.Kept.{cutSession, played, kept-cut}
 use Rattle.history.specs.Laws.Started.{sound, progress, ended-kept}
-use Rattle.history.specs.Laws.Routed.{rest-seen, route-found}
+use Rattle.history.specs.Laws.Routed.{rest-seen, seen-rest, route-found}
 use Rattle.history.specs.Laws.Offered.{ended-marks}
 
 -- ---- links between the same nodes
@@ -101,6 +101,15 @@ module _ (m : Mesh) (sized : length (m .links) ≡ 256) (good : planned m .answe
   made-most =
       kept-cut m (planned m .plan) (λ s k ts. (w : Wavelength) → length (linksOn w ts) + 3 ≤ 2 * m .count)
       (λ k ts q w. cut-made-3 (q .link) (progress m good sized q w) (sound m good sized q w))
+      (ended-kept m good sized calls)
+
+  -- and after so many none is under way
+  pub made-all : (k : ℕ) → log m calls .cut ≡ Link k → (w : Wavelength) → deliveriesOn w (log m calls) + 3 ≡ 2 * m .count → AtRest (ended m calls) w
+  made-all =
+      kept-cut m (planned m .plan) (λ s k ts. (w : Wavelength) → length (linksOn w ts) + 3 ≡ 2 * m .count → AtRest s w)
+      (λ k ts q w e.
+      seen-rest (cutSession m (planned m .plan) k (played m (planned m .plan) k ts)) w
+      (cut-made-3-rest (q .link) (progress m good sized q w) (sound m good sized q w) e))
       (ended-kept m good sized calls)
 
   -- nor than 2 × L - 4 under the cut of a link by itself

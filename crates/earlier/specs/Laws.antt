@@ -1,0 +1,4 @@
+pub mod Now
+pub mod Each
+pub mod Wider
+pub mod Earlier
