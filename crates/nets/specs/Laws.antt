@@ -1,4 +1,5 @@
 pub mod Fits
+pub mod Ordered
 pub mod Table
 pub mod Ways
 pub mod Finds

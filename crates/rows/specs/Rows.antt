@@ -2,7 +2,7 @@
 use Prim.Native.Nat.{ℕ, _^_}
 use mathlib.Core.Path.{_≡_}
 use mathlib.Core.Logic.{_↔_, _⊎_}
-use mathlib.Core.Bool.{Bool, true, false}
+use mathlib.Core.Bool.{Bool, true, false, cond}
 use mathlib.Core.List.{List}
 use lib.ListN.{getD, set}
 use lib.Bits.{bitOr, bitXor}
@@ -45,16 +45,14 @@ abbrev pub Searched : List ℕ → List ℕ → ℕ → ℕ → Bool → Type 0
 Searched leaving entering u v true = Meet leaving entering u v
 Searched leaving entering u v false = Apart leaving entering u v
 
--- a link's two arcs taken out
-abbrev pub cut : List ℕ → ℕ → ℕ → List ℕ
-cut rows a b = flip (flip rows a b) b a
+-- the arcs between a and b of a link that is open both ways taken out, but for those that another link with the same ends has: both where such a link stands
+-- after it, the one from a to b where one stands before it
+unfoldable pub cut : List ℕ → ℕ → ℕ → Bool → Bool → List ℕ
+cut rows a b before after = cond after rows (cond before (flip rows b a) (flip (flip rows b a) a b))
 
--- what a link gets, and the two tables after it: 0 where the search without it finds a walk back from its high end to its low end, else 1 where it finds one
--- from its low end to its high end, else 2, no direction
+-- what a link gets whose arcs are not in the two tables, and the tables after it: 0 where the search finds a walk back from its high end to its low end, else 1
+-- where it finds one from its low end to its high end, else 2, no direction
 pub data Directed (leaving entering : List ℕ) (low high : ℕ) : ℕ → List ℕ → List ℕ → Type 0 where
-  up : Meet (cut leaving low high) (cut entering low high) high low
-      → Directed leaving entering low high 0 (put (cut leaving low high) low high) (put (cut entering low high) high low)
-  down : Apart (cut leaving low high) (cut entering low high) high low → Meet (cut leaving low high) (cut entering low high) low high
-      → Directed leaving entering low high 1 (put (cut leaving low high) high low) (put (cut entering low high) low high)
-  stuck : Apart (cut leaving low high) (cut entering low high) high low → Apart (cut leaving low high) (cut entering low high) low high
-      → Directed leaving entering low high 2 (cut leaving low high) (cut entering low high)
+  up : Meet leaving entering high low → Directed leaving entering low high 0 (put leaving low high) (put entering high low)
+  down : Apart leaving entering high low → Meet leaving entering low high → Directed leaving entering low high 1 (put leaving high low) (put entering low high)
+  stuck : Apart leaving entering high low → Apart leaving entering low high → Directed leaving entering low high 2 leaving entering

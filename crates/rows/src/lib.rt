@@ -93,20 +93,36 @@ fn flip_arc(rows: &mut [u64; 64], a: u8, b: u8)
     rows[i] = rows[i] ^ digit(b);
 }
 
-// Takes out a link's two arcs.
-fn cut_link(rows: &mut [u64; 64], low: u8, high: u8)
-    ensures { λ _. ⌜ now (rows .exit) ≡ cut (now (rows .entry)) (low % 64) (high % 64) ⌝ }
+// Takes out the arcs between a and b of a link that is open both ways, but for those that another link with the same ends has: both where such a link stands
+// after it, the one from a to b where one stands before it.
+fn cut_link(rows: &mut [u64; 64], a: u8, b: u8, before: bool, after: bool)
+    ensures { λ _. ⌜ now (rows .exit) ≡ cut (now (rows .entry)) (a % 64) (b % 64) before after ⌝ }
 {
-    flip_arc(rows, low, high);
-    flip_arc(rows, high, low);
+    if after {
+        return;
+    }
+    flip_arc(rows, b, a);
+    if before {
+        return;
+    }
+    flip_arc(rows, a, b);
 }
 
-// Leaves a link that is open both ways open one way: 0 from its low end where a way leads back, else 1 where one leads on, else not at all.
-pub fn direct(leaving: &mut [u64; 64], entering: &mut [u64; 64], low: u8, high: u8) -> u8
-    ensures { λ r. ⌜ Directed (now (leaving .entry)) (now (entering .entry)) (low % 64) (high % 64) r (now (leaving .exit)) (now (entering .exit)) ⌝ }
+// Leaves a link that is open both ways open one way: 0 from its low end where a way leads back, else 1 where one leads on, else not at all. `before` and `after`
+// say whether links with the same ends stand before it, open from low to high, and after it, open both ways.
+pub fn direct(
+    leaving: &mut [u64; 64],
+    entering: &mut [u64; 64],
+    low: u8,
+    high: u8,
+    before: bool,
+    after: bool,
+) -> u8
+    ensures { λ r. ⌜ Directed (cut (now (leaving .entry)) (low % 64) (high % 64) before after) (cut (now (entering .entry)) (high % 64) (low % 64) before after)
+        (low % 64) (high % 64) r (now (leaving .exit)) (now (entering .exit)) ⌝ }
 {
-    cut_link(leaving, low, high);
-    cut_link(entering, low, high);
+    cut_link(leaving, low, high, before, after);
+    cut_link(entering, high, low, before, after);
     if leads(leaving, entering, high, low) {
         put_arc(leaving, low, high);
         put_arc(entering, high, low);

@@ -8,16 +8,21 @@ use borrow.Author.Needs.{needs}
 use Rattle.rows.proofs.direct.Statement.{statement}
 use Rattle.rows.proofs.direct.Tie as tie
 
-module _ (leaving entering : List ℕ) (low high : ℕ) {t e : List ℕ} (p : t ≡ cut leaving low high) (q : e ≡ cut entering low high) where
+module _ (leaving entering : List ℕ) (low high : ℕ) (before after : Bool) {t e : List ℕ}
+    (p : t ≡ cut leaving low high before after) (q : e ≡ cut entering high low before after) where
+  -- what the link gets
+  abbrev Gets : ℕ → List ℕ → List ℕ → Type 0
+  Gets d x y = Directed (cut leaving low high before after) (cut entering high low before after) low high d x y
+
   module _ {a : Bool} (A : Searched t e high low a) where
-    directed-up : a ≡ true → {x y : List ℕ} → x ≡ put t low high → y ≡ put e high low → Directed leaving entering low high 0 x y
+    directed-up : a ≡ true → {x y : List ℕ} → x ≡ put t low high → y ≡ put e high low → Gets 0 x y
     directed-up s f g = rw (f, g, p, q) (up (rw (p, q, s) at A))
 
     module _ (s : a ≡ false) {b : Bool} (B : Searched t e low high b) where
-      directed-down : b ≡ true → {x y : List ℕ} → x ≡ put t high low → y ≡ put e low high → Directed leaving entering low high 1 x y
+      directed-down : b ≡ true → {x y : List ℕ} → x ≡ put t high low → y ≡ put e low high → Gets 1 x y
       directed-down r f g = rw (f, g, p, q) (down (rw (p, q, s) at A) (rw (p, q, r) at B))
 
-      directed-not : b ≡ false → Directed leaving entering low high 2 t e
+      directed-not : b ≡ false → Gets 2 t e
       directed-not r = rw (p, q) (stuck (rw (p, q, s) at A) (rw (p, q, r) at B))
 
 cut-link-requires : tie.Need-cut-link-requires
@@ -39,7 +44,7 @@ returns : tie.Need-returns
 returns c =
     let up = c .before .before .before .before .before in
     let second = up .before .before .before in
-    directed-up _ _ _ _ (second .before .before .cut-link .ensures) (second .cut-link2 .ensures) (up .leads .ensures)
+    directed-up _ _ _ _ _ _ (second .before .before .cut-link .ensures) (second .cut-link2 .ensures) (up .leads .ensures)
     (c .before .before .before .before .if1 .taken) (c .before .before .put-arc .ensures) (c .put-arc2 .ensures)
 
 leads-requires-2 : tie.Need-leads-requires-2
@@ -56,14 +61,14 @@ returns-2 c =
     let down = c .before .before .before .before .before in
     let not-up = down .before .before .before in
     let second = not-up .before .before .before .before in
-    directed-down _ _ _ _ (second .before .before .cut-link .ensures) (second .cut-link2 .ensures) (not-up .before .leads .ensures) (not-up .if1 .left)
+    directed-down _ _ _ _ _ _ (second .before .before .cut-link .ensures) (second .cut-link2 .ensures) (not-up .before .leads .ensures) (not-up .if1 .left)
     (down .leads2 .ensures) (c .before .before .before .before .if2 .taken) (c .before .before .put-arc3 .ensures) (c .put-arc4 .ensures)
 
 returns-3 : tie.Need-returns-3
 returns-3 c =
     let not-up = c .before .before .before .before in
     let second = not-up .before .before .before .before in
-    directed-not _ _ _ _ (second .before .before .cut-link .ensures) (second .cut-link2 .ensures) (not-up .before .leads .ensures) (not-up .if1 .left)
+    directed-not _ _ _ _ _ _ (second .before .before .cut-link .ensures) (second .cut-link2 .ensures) (not-up .before .leads .ensures) (not-up .if1 .left)
     (c .before .leads2 .ensures) (c .if2 .left)
 
 pub direct-spec : {M : Type 1} → statement M
