@@ -1,3 +1,6 @@
+pub mod Parallel
+pub mod Shut
+pub mod Stored
 pub mod Tables
 pub mod Directing
 pub mod Outcome

@@ -28,7 +28,9 @@ fn refused(answer: Answer) -> Planned
 pub fn plan(m: Mesh) -> Planned
     ensures { λ r. ⌜ r ≡ planned m ⌝ }
 {
-    let a = mesh::check(m);
+    let mut ends = [0u16; 256];
+    let zeros = mesh::split(m, &mut ends);
+    let a = mesh::parts_answer(m.nodes, m.count, zeros, &ends);
     let Answer::Accepted = a else {
         return refused(a);
     };
@@ -40,7 +42,7 @@ pub fn plan(m: Mesh) -> Planned
             place: v as usize,
         });
     }
-    let d = search::all_directions(m, table);
+    let d = search::all_directions(m.count, &ends, table);
     if d.bridge < m.count {
         return refused(Answer::Refused {
             number: 21,

@@ -1,10 +1,11 @@
-// The planner's pass over the links, which gives directions and finds the lowest link whose removal parts the mesh.
-use mesh::Link;
-use mesh::Mesh;
-ghost use Rattle.mesh.specs.WellFormed.{WellFormed};
-ghost use Rattle.graph.specs.Net.{Strong, bothWays};
-ghost use Rattle.nets.specs.Nets.{netOf, Table};
-ghost use Rattle.planner.specs.Search.{Directs};
+// The planner's pass over the links, which gives directions and finds the lowest link whose removal parts the mesh. A mesh's links are given by their ends as
+// numbers, as `mesh::split` stores them.
+ghost use mathlib.Core.Path.{_≡_};
+ghost use Prim.Native.Nat.{_+_, _/_, _%_, _<_, _≤_};
+ghost use Rattle.scan.specs.Test.{Says};
+ghost use Rattle.scan.specs.Entry.{at};
+ghost use Rattle.mesh.specs.declared.Mesh.{Mesh};
+ghost use Rattle.planner.specs.Search.{Given, Directs};
 
 // A direction for each link before the first that parts the mesh, and the number of that link; the number of links where none does.
 pub(crate) struct Directions {
@@ -12,33 +13,34 @@ pub(crate) struct Directions {
     pub bridge: u16,
 }
 
-// The entry after entry i, or the last one.
-fn next_entry(i: usize) -> usize
-    requires { ⌜ i < 256 ⌝ }
-    ensures { λ r. ⌜ (r < 256) × (i < 255 → r ≡ i + 1) ⌝ }
+// The low and the high end of a link whose ends are e.
+fn low_of(e: u16) -> u8
+    ensures { λ r. ⌜ r ≡ e / 256 ⌝ }
 {
-    if i == 255 {
-        return i;
-    }
-    i + 1
+    (e / 256) as u8
 }
 
-// Whether the link `next` in the entry after i has the ends of the link l in entry i.
-fn is_parallel(i: usize, l: Link, next: Link) -> bool
-    ensures { λ r. ⌜ Says r ((i < 255) × (l .low ≡ next .low) × (l .high ≡ next .high)) ⌝ }
+fn high_of(e: u16) -> u8
+    ensures { λ r. ⌜ r ≡ e % 256 ⌝ }
+{
+    (e % 256) as u8
+}
+
+// Whether the link after link i has its ends: links with the same ends stand next to each other, and entries past the last link are 0.
+fn is_followed(ends: &[u16; 256], i: usize) -> bool
+    ensures { λ r. ⌜ Says r ((i < 255) × (at (now (ends .entry)) i ≡ at (now (ends .entry)) (i + 1))) ⌝ }
 {
     if 255 <= i {
         return false;
     }
-    mesh::ends_of(l) == mesh::ends_of(next)
+    ends[i] == ends[i + 1]
 }
 
 // Each link in turn gets its direction, the links before it having theirs.
-pub(crate) fn all_directions(m: Mesh, ways: [u64; 64]) -> Directions
-    requires { ⌜ WellFormed m × Strong (netOf m) bothWays × Table (netOf m) bothWays ways ⌝ }
-    ensures { λ r. ⌜ Directs m (r .directions) (r .bridge) ⌝ }
+pub(crate) fn all_directions(count: u16, ends: &[u16; 256], ways: [u64; 64]) -> Directions
+    requires { ⌜ count ≤ 256 ⌝ }
+    ensures { λ r. ⌜ ((m : Mesh) → Given m count (now (ends .entry)) ways → Directs m (r .directions) (r .bridge)) ⌝ }
 {
-    let count = m.count;
     let mut leaving = ways;
     let mut entering = ways;
     let mut directions = [0u8; 256];
@@ -46,11 +48,16 @@ pub(crate) fn all_directions(m: Mesh, ways: [u64; 64]) -> Directions
     let mut k: u16 = 0;
     while k < count {
         let i = k as usize;
-        let l = m.links[i];
-        let j = next_entry(i);
-        let next = m.links[j];
-        let after = is_parallel(i, l, next);
-        let d = rows::direct(&mut leaving, &mut entering, l.low, l.high, before, after);
+        let after = is_followed(ends, i);
+        let e = ends[i];
+        let d = rows::direct(
+            &mut leaving,
+            &mut entering,
+            low_of(e),
+            high_of(e),
+            before,
+            after,
+        );
         if d == rows::STUCK {
             return Directions {
                 directions,

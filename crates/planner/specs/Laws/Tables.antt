@@ -1,65 +1,105 @@
--- The rows that have the net's open ways when one way of a link is shut, or both; and two tables, of which the second has the ways by the nodes that they
--- enter. Assumes nothing.
+-- The rows that have the net's open ways when both ways of a link are shut: an arc goes where no other link has it, else it stays. And two tables, of which the
+-- second has the ways by the nodes that they enter. Assumes nothing.
 use Prim.Native.Nat.{ℕ, _<_, _≤_}
 use mathlib.Core.Path.{_≡_, refl, sym, _∙_}
 use mathlib.Core.Logic.{⊎-elim, _↔_, Iff·rfl}
-use mathlib.Core.Bool.{Bool, true, false, not, _&&_, true≢false, Bool·not-not}
+use mathlib.Core.Bool.{Bool, true, false, not, Bool·not-not}
 use mathlib.Core.List.{List}
-use Rattle.scan.specs.Test.{known, Says, and-says, denies}
-use Rattle.graph.specs.Net.{Net, Fits, end, Ways, Leads, bothWays, without}
-use Rattle.graph.specs.Laws.Arcs.{arc, reopen, turn, without-free, without-open}
+use native.Mathlib.Omega.{arith}
+use native.Mathlib.Decide.{ℕ-discrete}
+use Rattle.graph.specs.Net.{Net, Fits, end, Ways, Arc, Leads, bothWays, without}
+use Rattle.graph.specs.Laws.Arcs.{arc, reopen, turn}
 use Rattle.rows.specs.Rows.{Mirror, Meet, Apart, put, flip, cut}
 use Rattle.rows.specs.Laws.Edges.{length-flip, flip-edge}
 use Rattle.rows.specs.Laws.Meeting.{meet-leads, apart-none}
 use Rattle.nets.specs.Nets.{Table}
-use Rattle.nets.specs.Laws.Fits.{Simple}
-use Rattle.nets.specs.Laws.Table.{isWay, isWay-says, opened, to-leads, from-leads, same-ways, end-in, put-way}
+use Rattle.nets.specs.Parallel.{Parallel, Ordered}
+use Rattle.nets.specs.Laws.Table.{opened, to-leads, from-leads, same-ways, end-in, put-way}
+use Rattle.planner.specs.Parallel.{Another, Only, Stays}
+use Rattle.planner.specs.Laws.Shut.{shut, shut-says, shut-both, either-way, not-self}
 
--- ---- one way
+-- ---- ways with the same ends
 
--- way d of link k shut
-abbrev shut : ℕ → Bool → Ways → Ways
-shut k d w i e = w i e && not (isWay k d i e)
+parallel-end : (G : Net) (i k : ℕ) → Parallel G i k → (d : Bool) → end G i d ≡ end G k d
+parallel-end G i k (low, high) false = low
+parallel-end G i k (low, high) true = high
 
-shut-says : (k : ℕ) (d : Bool) (w : Ways) (i : ℕ) (e : Bool) → Says (shut k d w i e) ((w i e ≡ true) × ((i ≡ k) × (e ≡ d) → ⊥))
-shut-says k d w i e = and-says Iff·rfl (denies (isWay-says k d i e))
+-- they are the same way of links with the same ends
+same-way : {G : Net} → Ordered G → (i k : ℕ) (e d : Bool) → i < G .links → k < G .links → end G i e ≡ end G k d → end G i (not e) ≡ end G k (not d)
+    → (e ≡ d) × Parallel G i k
+same-way O i k false false l h s t = (refl, (s, t))
+same-way O i k true true l h s t = (refl, (t, s))
+same-way O i k false true l h s t = absurd (omega (arith, O .upward i l, O .upward k h))
+same-way O i k true false l h s t = absurd (omega (arith, O .upward i l, O .upward k h))
 
--- both ways of link k
-module _ (k : ℕ) (w : Ways) (i : ℕ) (e : Bool) where
-  shut-both : Says (without k w i e) (shut k true (shut k false w) i e ≡ true)
-  shut-both = (
-    λ o. let (n, f) = without-open k w i e o in second .1 (first .1 (f, λ (q, _). n q), λ (q, _). n q),
-    λ o. let (p, n) = second .0 o in let (f, m) = first .0 p in without-free k w i e (λ q. ⊎-elim (λ t. n (q, t)) (λ t. m (q, t)) (known e)) f,
-  )
-    where
-      first : Says (shut k false w i e) ((w i e ≡ true) × ((i ≡ k) × (e ≡ false) → ⊥))
-      first = shut-says k false w i e
+-- ---- one way shut
 
-      second : Says (shut k true (shut k false w) i e) ((shut k false w i e ≡ true) × ((i ≡ k) × (e ≡ true) → ⊥))
-      second = shut-says k true (shut k false w) i e
-
--- ---- rows and ways
-
-module _ {G : Net} {w : Ways} {rows : List ℕ} (T : Table G w rows) (F : Fits G) (n : G .nodes ≤ 64) (k : ℕ) (h : k < G .links) (d : Bool) where
-  flip-way : Simple G → w k d ≡ true → Table G (shut k d w) (flip rows (end G k d) (end G k (not d)))
-  flip-way S on = record {
+module _ {G : Net} (F : Fits G) (n : G .nodes ≤ 64) (O : Ordered G) (k : ℕ) (h : k < G .links) {w : Ways} {rows : List ℕ} (T : Table G w rows) (d : Bool) where
+  -- no other link has the arc
+  flip-way : w k d ≡ true → Only G w k d → Table G (shut k d w) (flip rows (end G k d) (end G k (not d)))
+  flip-way on S = record {
     sized = length-flip rows _ _ ∙ T .sized;
     ways = λ u v. let (out, into) = flip-edge rows (end G k d) (end G k (not d)) (end-in T F n k h d) u v (T .ways _ _ .1 (arc k d h on)) in (
       λ e. let (g, n) = out e in let a = T .ways u v .0 g in
           reopen a (shut-says k d w _ _ .1 (a .free, λ (q, r). n (cc (a .starts), cc (a .ends)))),
       λ a. let (f, n) = shut-says k d w _ _ .0 (a .free) in
-          into (T .ways u v .1 (reopen a f), λ (s, t). n (S (a .link) k (a .way) d (a .below) h (sym (a .starts) ∙ s) (sym (a .ends) ∙ t))),
+          into (
+            T .ways u v .1 (reopen a f),
+            λ (s, t). let (r, p) = same-way O (a .link) k (a .way) d (a .below) h (sym (a .starts) ∙ s) (sym (a .ends) ∙ t) in
+                n (S (a .link) (a .below) (rw r at f) p, r),
+          ),
     );
   }
 
--- both ways of link k shut
-cut-way : {G : Net} {w : Ways} {rows : List ℕ} → Table G w rows → Fits G → G .nodes ≤ 64 → (k : ℕ) → k < G .links → Simple G
-    → ((d : Bool) → w k d ≡ true) → Table G (without k w) (cut rows (G .low k) (G .high k))
-cut-way {w = w} T F n k h S on =
-    same-ways (flip-way (flip-way T F n k h false S (on false)) F n k h true S other) (without k w) (λ i d l. shut-both k w i d)
-  where
-    other : shut k false w k true ≡ true
-    other = shut-says k false w k true .1 (on true, λ (_, e). true≢false e)
+  -- another link has it
+  keep-way : Another G w k d → Table G (shut k d w) rows
+  keep-way (i, l, n, o, t) = record {
+    sized = T .sized;
+    ways = λ u v. (λ e. keep (T .ways u v .0 e), λ a. T .ways u v .1 (reopen a (shut-says k d w _ _ .0 (a .free) .0)));
+  }
+    where
+      keep : {u v : ℕ} → Arc G w u v → Arc G (shut k d w) u v
+      keep a = elim (ℕ-discrete (a .link) k) [
+        | yes e ↦ ⊎-elim (λ q. other a e q) (λ q. reopen a (shut-says k d w _ _ .1 (a .free, λ (_, r). not-self d (sym r ∙ q)))) (either-way (a .way) d)
+        | no m ↦ reopen a (shut-says k d w _ _ .1 (a .free, λ (e, _). m e))
+      ]
+        where
+          other : {u v : ℕ} (a : Arc G w u v) → a .link ≡ k → a .way ≡ d → Arc G (shut k d w) u v
+          other a e q = record {
+            link = i;
+            way = d;
+            below = l;
+            free = shut-says k d w i d .1 (o, λ (s, _). n s);
+            starts = a .starts ∙ rw (e, q) (sym (parallel-end G i k t d));
+            ends = a .ends ∙ rw (e, q) (sym (parallel-end G i k t (not d)));
+          }
+
+-- ---- both ways shut, first the way (not d)
+
+module _ {G : Net} (F : Fits G) (n : G .nodes ≤ 64) (O : Ordered G) (k : ℕ) (h : k < G .links) {w : Ways} {rows : List ℕ} (T : Table G w rows)
+    (on : (d : Bool) → w k d ≡ true) (d : Bool) where
+  -- way d still open, and other links as they were
+  still : shut k (not d) w k d ≡ true
+  still = shut-says k (not d) w k d .1 (on d, λ (_, e). not-self d e)
+
+  another-still : Another G w k d → Another G (shut k (not d) w) k d
+  another-still (i, l, m, o, t) = (i, l, m, shut-says k (not d) w i d .1 (o, λ (e, _). m e), t)
+
+  only-still : Only G w k d → Only G (shut k (not d) w) k d
+  only-still S i l o t = S i l (shut-says k (not d) w i d .0 o .0) t
+
+  shut-first : Only G w k (not d) → Table G (shut k (not d) w) (flip rows (end G k (not d)) (end G k d))
+  shut-first S = rw Bool·not-not at (flip-way F n O k h T (not d) (on (not d)) S)
+
+  ways-shut : (before after : Bool) → Stays G w k d before after
+      → Table G (shut k d (shut k (not d) w)) (cut rows (end G k d) (end G k (not d)) before after)
+  unfolding cut
+  ways-shut before true S = keep-way F n O k h (keep-way F n O k h T (not d) (S .later refl (not d))) d (another-still (S .later refl d))
+  ways-shut true false S = keep-way F n O k h (shut-first (S .last refl)) d (another-still (S .earlier refl))
+  ways-shut false false S = flip-way F n O k h (shut-first (S .last refl)) d still (only-still (S .alone refl refl))
+
+  cut-way : (before after : Bool) → Stays G w k d before after → Table G (without k w) (cut rows (end G k d) (end G k (not d)) before after)
+  cut-way before after S = same-ways (ways-shut before after S) (without k w) (λ i e l. shut-both k w i e d)
 
 -- ---- two tables
 
@@ -107,6 +147,16 @@ module _ {G : Net} {w : Ways} {leaving entering : List ℕ} (T : Tables G w leav
       into = same-ways (rw Bool·not-not at (put-way (T .into) F n k h (not d))) (turnedWays (opened k d w)) (λ i e l. rw (opened-turned k d w i e) Iff·rfl);
     }
 
-    pub cut-tables : Simple G → ((d : Bool) → w k d ≡ true)
-        → Tables G (without k w) (cut leaving (G .low k) (G .high k)) (cut entering (G .low k) (G .high k))
-    cut-tables S on = record { out = cut-way (T .out) F n k h S on; into = cut-way (T .into) F n k h S (λ d. on (not d)) }
+module _ {G : Net} (F : Fits G) (n : G .nodes ≤ 64) (O : Ordered G) (k : ℕ) (h : k < G .links) {w : Ways} {leaving entering : List ℕ} (T : Tables G w leaving entering)
+    (on : (d : Bool) → w k d ≡ true) where
+  pub cut-tables : (before after : Bool) → Stays G w k false before after
+      → Tables G (without k w) (cut leaving (G .low k) (G .high k) before after) (cut entering (G .high k) (G .low k) before after)
+  cut-tables before after S = record {
+    out = cut-way F n O k h (T .out) on false before after S;
+    into = cut-way F n O k h (T .into) (λ d. on (not d)) true before after (record {
+      later = λ q e. S .later q (not e);
+      last = S .last;
+      earlier = S .earlier;
+      alone = S .alone;
+    });
+  }
