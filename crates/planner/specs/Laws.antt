@@ -6,3 +6,4 @@ pub mod Directing
 pub mod Outcome
 pub mod Meaning
 pub mod ByEnds
+pub mod Doubled

@@ -82,16 +82,18 @@ pub plan-numbers : (m : Mesh) (number place : ℕ) → meshAnswer m ≡ Accepted
     → ((number ≡ 20) × NoPath (netOf m) place) ⊎ ((number ≡ 21) × LinkParts (netOf m) place)
 plan-numbers m number place ok e = told-refused (subst (Tells (Neither m ok) (Numbered m ok)) e (told m ok))
 
+-- of an accepted plan neither test passed, so its directions are those of the pass over the links
+neither : (m : Mesh) (e : planned m .answer ≡ Accepted) → Neither m (plan-checked m e)
+neither m e = let ok = plan-checked m e in told-accepted (subst (Tells (Neither m ok) (Numbered m ok)) e (told m ok))
+
+pub plan-greedy : (m : Mesh) → planned m .answer ≡ Accepted → planned m .plan ≡ padded (greedy (netOf m) (m .count))
+plan-greedy m e = let (a, b) = neither m e in ap (λ (r : Planned). r .plan) (planned-accepted m (plan-checked m e) a b)
+
 -- an accepted plan is the first admissible assignment
 pub plan-first : (m : Mesh) → planned m .answer ≡ Accepted → FirstPlan m
 plan-first m e =
-    let ok = plan-checked m e in
-    let (a, b) = told-accepted (subst (Tells (Neither m ok) (Numbered m ok)) e (told m ok)) in
-    record {
-      directions = greedy (netOf m) (m .count);
-      plan-is = ap (λ (r : Planned). r .plan) (planned-accepted m ok a b);
-      first = planned-first (fits m ok) a b;
-    }
+    let (a, b) = neither m e in
+    record { directions = greedy (netOf m) (m .count); plan-is = plan-greedy m e; first = planned-first (fits m (plan-checked m e)) a b }
 
 -- and the first admissible assignment of a mesh that passes the checks is its plan
 pub first-planned : (m : Mesh) → meshAnswer m ≡ Accepted → (p : List ℕ) → First (netOf m) p → planned m ≡ record { plan = padded p; answer = Accepted }
