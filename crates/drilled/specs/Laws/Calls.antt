@@ -9,11 +9,10 @@ use lib.ListN.{length}
 use Rattle.wavelengths.specs.declared.Wavelength.{Wavelength}
 use Rattle.wavelengths.specs.Merge.{Turn, linksOn}
 use Rattle.mesh.specs.declared.Answer.the-variants.{Accepted}
-use Rattle.mesh.specs.declared.Link as mesh
 use Rattle.mesh.specs.declared.Plan.{Plan}
-use Rattle.mesh.specs.WellFormed.{OnlyLink}
+use Rattle.mesh.specs.WellFormed.{link, OnlyLink}
 use Rattle.heaviest.specs.Drill.{drill}
-use Rattle.heaviest.specs.Laws.Drill.{Kind, middle, across, kind, middle-link, across-link, drill-sized}
+use Rattle.heaviest.specs.Laws.Drill.{Kind, middle, across, kind, drill-sized}
 use Rattle.planner.specs.declared.Planned.{Planned}
 use Rattle.planner.specs.Plan.{planned}
 use Rattle.formed.specs.declared.Cut.the-variants.{Link}
@@ -25,7 +24,7 @@ use Rattle.history.specs.Demand.{AtRest, ended, log}
 use Rattle.history.specs.Laws.Kept.{cutSession, played, Since, kept-cut}
 use Rattle.history.specs.Laws.Started.{sound, progress, ended-kept}
 use Rattle.history.specs.Laws.Routed.{rest-seen, seen-rest, route-found}
-use Rattle.drilled.specs.Laws.Plan.{drill-planned, drill-backup}
+use Rattle.drilled.specs.Laws.Plan.{drill-net, drill-planned, drill-backup}
 use Rattle.drilled.specs.Laws.Flood.{path-two, rest-drill}
 
 module _ (m : ℕ) (some : 0 < m) (most : m ≤ 62) where
@@ -37,7 +36,9 @@ module _ (m : ℕ) (some : 0 < m) (most : m ≤ 62) where
   outer-only i h (low, high) = by (kind m i h)
     where
       by : Kind m i → i ≡ 2 * m
-      by (middle j a l b e) = absurd (omega (arith, low, ap (λ (l : mesh.Link). l .low) (rw e (middle-link m j a l b)), ap (λ (l : mesh.Link). l .low) (across-link m)))
+      by (middle j a l b e) =
+          let first : link (drill m) i .low ≡ j = rw e (drill-net m .middle j a l b .0) in
+          absurd (omega (arith, drill-net m .across .0))
       by (across e) = e
 
   accepted : planned (drill m) .answer ≡ Accepted

@@ -32,7 +32,7 @@ turned D = record {
 }
 
 module _ (m : ℕ) where
-  drill-net : DrillNet m (netOf (drill m))
+  pub drill-net : DrillNet m (netOf (drill m))
   drill-net = record {
     nodes = refl;
     links = refl;
