@@ -66,6 +66,7 @@ use Rattle.ducts.specs.Meaning as ductQuery
 use Rattle.ducts.specs.Laws.Sharing.{sharing-lists, sharing-same, sharing-alone, sharing-most}
 use Rattle.ducts.specs.Laws.Query as query
 use Rattle.planner.specs.Laws.ByEnds.{planned-by-ends}
+use Rattle.planner.specs.Laws.Doubled.{doubled-zero}
 use Rattle.topology.specs.Backup.{backupOn}
 use Rattle.topology.specs.Laws.ByEnds.{backup-by-ends}
 use Rattle.legacy.specs.declared.OldMesh.{OldMesh}
@@ -582,6 +583,11 @@ module _ (m : Mesh) (i k : ℕ) (inside : i < m .count) (other : i ≢ k) (low :
 
   pub doubled-no-bridge : meshAnswer m ≡ Accepted → planned m .answer ≢ Refused 21 k
   doubled-no-bridge ok = never-parts m ok i k inside other low high
+
+-- in the plan each but the last of the links between the same nodes runs from low to high; the last may run back, and then the span runs both ways
+pub doubled-directions : (m : Mesh) → InRange m → planned m .answer ≡ Accepted → (i k : ℕ) → i < k → k < m .count
+    → link m i .low ≡ link m k .low → link m i .high ≡ link m k .high → at (planned m .plan .directions) i ≡ 0
+doubled-directions = doubled-zero
 
 -- two nodes with two links, whatever their lengths, fibre pairs and ducts:
 module _ (m : Mesh) (r : InRange m) (ok : meshAnswer m ≡ Accepted) (nodes : m .nodes ≡ 2) (links : m .count ≡ 2) where

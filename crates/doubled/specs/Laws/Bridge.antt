@@ -26,13 +26,13 @@ module _ (G : Net) {i k : ℕ} (i< : i < G .links) (other : i ≢ k) (low : G .l
   beside : (u v : ℕ) → Arc G bothWays u v → Leads G (without k bothWays) u v
   beside u v a = elim (ℕ-discrete (a .link) k) [
     | yes e ↦ one (record {
-        link = i;
-        way = a .way;
-        below = i<;
-        free = without-free k bothWays i (a .way) other refl;
-        starts = a .starts ∙ ap (λ (j : ℕ). end G j (a .way)) e ∙ same-end (a .way);
-        ends = a .ends ∙ ap (λ (j : ℕ). end G j (not (a .way))) e ∙ same-end (not (a .way));
-      })
+      link = i;
+      way = a .way;
+      below = i<;
+      free = without-free k bothWays i (a .way) other refl;
+      starts = a .starts ∙ ap (λ (j : ℕ). end G j (a .way)) e ∙ same-end (a .way);
+      ends = a .ends ∙ ap (λ (j : ℕ). end G j (not (a .way))) e ∙ same-end (not (a .way));
+    })
     | no n ↦ one (reopen a (without-free k bothWays (a .link) (a .way) n refl))
   ]
 

@@ -56,7 +56,7 @@ module _ (m : Mesh) (sized : length (m .links) ≡ 256) where
       apart i k b h q =
           let (s, t) = well-formed-ordered (well-formed m sized (mesh-still m e)) .gathered i (suc i) k (omega arith) (omega arith) h q in
           let above : Above (link m i .low) (link m i .high) (link m (suc i) .low) (link m (suc i) .high)
-                = strict-says _ _ _ _ .0 (mesh-each strictlyFollows m sized e (suc i) (omega arith)) in
+          = strict-says _ _ _ _ .0 (mesh-each strictlyFollows m sized e (suc i) (omega arith)) in
           ⊎-elim (λ (l : link m i .low < link m (suc i) .low). omega arith) (λ (_, l). omega arith) above
 
   only-strict : meshAnswer m ≡ Accepted → ((k : ℕ) → k < m .count → OnlyLink m k) → meshAnswerBy strictlyFollows m ≡ Accepted
