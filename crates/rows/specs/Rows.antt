@@ -50,9 +50,13 @@ Searched leaving entering u v false = Apart leaving entering u v
 unfoldable pub cut : List ℕ → ℕ → ℕ → Bool → Bool → List ℕ
 cut rows a b before after = cond after rows (cond before (flip rows b a) (flip (flip rows b a) a b))
 
--- what a link gets whose arcs are not in the two tables, and the tables after it: 0 where the search finds a walk back from its high end to its low end, else 1
--- where it finds one from its low end to its high end, else 2, no direction
+-- what a link gets by two tables without it, and the tables after it: 0 where the search finds a walk back from its high end to its low end, else 1 where it
+-- finds one from its low end to its high end, else 2, no direction
 pub data Directed (leaving entering : List ℕ) (low high : ℕ) : ℕ → List ℕ → List ℕ → Type 0 where
   up : Meet leaving entering high low → Directed leaving entering low high 0 (put leaving low high) (put entering high low)
   down : Apart leaving entering high low → Meet leaving entering low high → Directed leaving entering low high 1 (put leaving high low) (put entering low high)
   stuck : Apart leaving entering high low → Apart leaving entering low high → Directed leaving entering low high 2 leaving entering
+
+-- the same of a link that is open both ways: its arcs are taken out first
+abbrev pub LinkDirected : List ℕ → List ℕ → ℕ → ℕ → Bool → Bool → ℕ → List ℕ → List ℕ → Type 0
+LinkDirected leaving entering low high before after = Directed (cut leaving low high before after) (cut entering high low before after) low high

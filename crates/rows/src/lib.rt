@@ -4,7 +4,7 @@ ghost use mathlib.Core.Path.{_≡_};
 ghost use Prim.Native.Nat.{_%_, _<_, _^_};
 ghost use lib.ListN.{getD};
 ghost use Rattle.scan.specs.Bits.{has};
-ghost use Rattle.rows.specs.Rows.{Spread, Searched, put, flip, cut, Directed};
+ghost use Rattle.rows.specs.Rows.{Spread, Searched, put, flip, cut, LinkDirected};
 
 // What `direct` answers where the link can have no direction.
 pub const STUCK: u8 = 2;
@@ -118,8 +118,8 @@ pub fn direct(
     before: bool,
     after: bool,
 ) -> u8
-    ensures { λ r. ⌜ Directed (cut (now (leaving .entry)) (low % 64) (high % 64) before after) (cut (now (entering .entry)) (high % 64) (low % 64) before after)
-        (low % 64) (high % 64) r (now (leaving .exit)) (now (entering .exit)) ⌝ }
+    ensures { λ r. ⌜ LinkDirected (now (leaving .entry)) (now (entering .entry)) (low % 64) (high % 64) before after
+        r (now (leaving .exit)) (now (entering .exit)) ⌝ }
 {
     cut_link(leaving, low, high, before, after);
     cut_link(entering, high, low, before, after);

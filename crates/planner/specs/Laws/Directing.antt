@@ -20,7 +20,7 @@ use Rattle.graph.specs.Plan.{parts}
 use Rattle.graph.specs.Greedy.{greedy, direction, begun, bridge}
 use Rattle.graph.specs.Laws.Bridge.{unbridged-up, unbridged-down, bridge-parts}
 use Rattle.graph.specs.Laws.Pass.{greedy-length, begun-late, begun-next, next-up, next-down, stuck-bridge}
-use Rattle.rows.specs.Rows.{put, cut, Directed, up, down, stuck}
+use Rattle.rows.specs.Rows.{put, cut, Directed, LinkDirected, up, down, stuck}
 use Rattle.nets.specs.Nets.{netOf, Table}
 use Rattle.nets.specs.Parallel.{Ordered}
 use Rattle.nets.specs.Laws.Fits.{well-formed-fits}
@@ -34,23 +34,17 @@ use Rattle.planner.specs.Laws.Tables.{Tables, both-tables, found, none-f
 
 -- ---- one link
 
--- the tables without link k
-abbrev leavingRest : Net → ℕ → Bool → Bool → List ℕ → List ℕ
-leavingRest G k before after t = cut t (G .low k) (G .high k) before after
-
-abbrev enteringRest : Net → ℕ → Bool → Bool → List ℕ → List ℕ
-enteringRest G k before after e = cut e (G .high k) (G .low k) before after
-
 module _ {G : Net} (F : Fits G) (n : G .nodes ≤ 64) (O : Ordered G) (k : ℕ) (h : k < G .links) {before after : Bool}
     (B : Says before (Earlier G k)) (A : Says after (Later G k)) {t e : List ℕ} (T : Tables G (begun G k) t e) where
   abbrev rest : Ways
   rest = without k (begun G k)
 
+  -- the tables without link k
   abbrev out : List ℕ
-  out = leavingRest G k before after t
+  out = cut t (G .low k) (G .high k) before after
 
   abbrev into : List ℕ
-  into = enteringRest G k before after e
+  into = cut e (G .high k) (G .low k) before after
 
   rest-tables : Tables G rest out into
   rest-tables = cut-tables F n O k h T (λ d. begun-late G k k d (le-refl k)) before after (stays F O k h B A)
@@ -124,14 +118,14 @@ module _ {m : Mesh} {count : ℕ} {ends ways : List ℕ} (Q : Given m count ends
   -- link k's turn, with the flag and what the code gives the link, whose ends count as themselves
   module _ (h : k < count) {after : Bool} (A : Says after ((k < 255) × (at ends k ≡ at ends (k + 1)))) {low high : ℕ}
       (low-is : low ≡ at ends k / 256) (high-is : high ≡ at ends k % 256) {d : ℕ} {x y : List ℕ}
-      (R : Directed (cut t (low % 64) (high % 64) before after) (cut e (high % 64) (low % 64) before after) (low % 64) (high % 64) d x y) where
+      (R : LinkDirected t e (low % 64) (high % 64) before after d x y) where
     inside : k < m .count
     inside = rw (Q .counted) at h
 
     later : Says after (Later (netOf m) k)
     later = later-says (Q .formed) k inside (rw (Q .stored) at A)
 
-    directed : Directed (leavingRest (netOf m) k before after t) (enteringRest (netOf m) k before after e) (link m k .low) (link m k .high) d x y
+    directed : LinkDirected t e (link m k .low) (link m k .high) before after d x y
     directed = let (l, u) = ends-counted (Q .formed) k inside in rw (low-is, high-is, Q .stored, l, u) at R
 
     pub directing-next : (d ≡ 2 → ⊥) → Directing m x y (set q k d) after (k + 1)

@@ -3,26 +3,22 @@ use Prim.Native.Nat.{ℕ}
 use mathlib.Core.Path.{_≡_}
 use mathlib.Core.Bool.{Bool, true, false}
 use mathlib.Core.List.{List}
-use Rattle.rows.specs.Rows.{Searched, put, cut, Directed, up, down, stuck}
+use Rattle.rows.specs.Rows.{Searched, put, cut, LinkDirected, up, down, stuck}
 use borrow.Author.Needs.{needs}
 use Rattle.rows.proofs.direct.Statement.{statement}
 use Rattle.rows.proofs.direct.Tie as tie
 
 module _ (leaving entering : List ℕ) (low high : ℕ) (before after : Bool) {t e : List ℕ}
     (p : t ≡ cut leaving low high before after) (q : e ≡ cut entering high low before after) where
-  -- what the link gets
-  abbrev Gets : ℕ → List ℕ → List ℕ → Type 0
-  Gets d x y = Directed (cut leaving low high before after) (cut entering high low before after) low high d x y
-
   module _ {a : Bool} (A : Searched t e high low a) where
-    directed-up : a ≡ true → {x y : List ℕ} → x ≡ put t low high → y ≡ put e high low → Gets 0 x y
+    directed-up : a ≡ true → {x y : List ℕ} → x ≡ put t low high → y ≡ put e high low → LinkDirected leaving entering low high before after 0 x y
     directed-up s f g = rw (f, g, p, q) (up (rw (p, q, s) at A))
 
     module _ (s : a ≡ false) {b : Bool} (B : Searched t e low high b) where
-      directed-down : b ≡ true → {x y : List ℕ} → x ≡ put t high low → y ≡ put e low high → Gets 1 x y
+      directed-down : b ≡ true → {x y : List ℕ} → x ≡ put t high low → y ≡ put e low high → LinkDirected leaving entering low high before after 1 x y
       directed-down r f g = rw (f, g, p, q) (down (rw (p, q, s) at A) (rw (p, q, r) at B))
 
-      directed-not : b ≡ false → Gets 2 t e
+      directed-not : b ≡ false → LinkDirected leaving entering low high before after 2 t e
       directed-not r = rw (p, q) (stuck (rw (p, q, s) at A) (rw (p, q, r) at B))
 
 cut-link-requires : tie.Need-cut-link-requires
