@@ -50,14 +50,9 @@ pub(crate) fn all_directions(count: u16, ends: &[u16; 256], ways: [u64; 64]) -> 
         let i = k as usize;
         let after = is_followed(ends, i);
         let e = ends[i];
-        let d = rows::direct(
-            &mut leaving,
-            &mut entering,
-            low_of(e),
-            high_of(e),
-            before,
-            after,
-        );
+        let low = low_of(e);
+        let high = high_of(e);
+        let d = rows::direct(&mut leaving, &mut entering, low, high, before, after);
         if d == rows::STUCK {
             return Directions {
                 directions,

@@ -41,9 +41,9 @@ direct-requires c κs = search needs
 
 returns : tie.Need-returns Inv-loop μ-loop
 returns c = λ m Q.
-    let high = c .before .before in
+    let high = c .before .before .before .before in
     let low = high .before in
-    let followed = low .before .before .before .before in
+    let followed = low .before .before in
     let turn = followed .before in
     directs-bridge Q (turn .before .loop .inv m Q) (turn .loop-test .taken) (followed .is-followed .ensures) (low .low-of .ensures) (high .high-of .ensures)
     (c .before .direct .ensures) (omega arith)
@@ -59,9 +59,9 @@ loop-less c = search needs
 
 loop-again : tie.Need-loop-again Inv-loop μ-loop
 loop-again c = λ m Q.
-    let high = c .before .before in
+    let high = c .before .before .before .before in
     let low = high .before in
-    let followed = low .before .before .before .before in
+    let followed = low .before .before in
     let turn = followed .before in
     directing-next Q (turn .before .loop .inv m Q) (turn .loop-test .taken) (followed .is-followed .ensures) (low .low-of .ensures) (high .high-of .ensures)
     (c .before .direct .ensures) (λ e. omega arith)
