@@ -34,8 +34,31 @@ same-way O i k true false l h s t = absurd (omega (arith, O .upward i l, O .upwa
 
 -- ---- one way shut
 
+-- another link has the arc
+keep-way : {G : Net} {w : Ways} {rows : List ℕ} → Table G w rows → (k : ℕ) (d : Bool) → Another G w k d → Table G (shut k d w) rows
+keep-way {G} {w} T k d (i, l, n, o, t) = record {
+  sized = T .sized;
+  ways = λ u v. (λ e. keep (T .ways u v .0 e), λ a. T .ways u v .1 (reopen a (shut-says k d w _ _ .0 (a .free) .0)));
+}
+  where
+    keep : {u v : ℕ} → Arc G w u v → Arc G (shut k d w) u v
+    keep a = elim (ℕ-discrete (a .link) k) [
+      | yes e ↦ ⊎-elim (λ q. other a e q) (λ q. reopen a (shut-says k d w _ _ .1 (a .free, λ (_, r). not-self d (sym r ∙ q)))) (either-way (a .way) d)
+      | no m ↦ reopen a (shut-says k d w _ _ .1 (a .free, λ (e, _). m e))
+    ]
+      where
+        other : {u v : ℕ} (a : Arc G w u v) → a .link ≡ k → a .way ≡ d → Arc G (shut k d w) u v
+        other a e q = record {
+          link = i;
+          way = d;
+          below = l;
+          free = shut-says k d w i d .1 (o, λ (s, _). n s);
+          starts = a .starts ∙ rw (e, q) (sym (parallel-end G i k t d));
+          ends = a .ends ∙ rw (e, q) (sym (parallel-end G i k t (not d)));
+        }
+
 module _ {G : Net} (F : Fits G) (n : G .nodes ≤ 64) (O : Ordered G) (k : ℕ) (h : k < G .links) {w : Ways} {rows : List ℕ} (T : Table G w rows) (d : Bool) where
-  -- no other link has the arc
+  -- no other link has it
   flip-way : w k d ≡ true → Only G w k d → Table G (shut k d w) (flip rows (end G k d) (end G k (not d)))
   flip-way on S = record {
     sized = length-flip rows _ _ ∙ T .sized;
@@ -50,29 +73,6 @@ module _ {G : Net} (F : Fits G) (n : G .nodes ≤ 64) (O : Ordered G) (k : ℕ) 
           ),
     );
   }
-
-  -- another link has it
-  keep-way : Another G w k d → Table G (shut k d w) rows
-  keep-way (i, l, n, o, t) = record {
-    sized = T .sized;
-    ways = λ u v. (λ e. keep (T .ways u v .0 e), λ a. T .ways u v .1 (reopen a (shut-says k d w _ _ .0 (a .free) .0)));
-  }
-    where
-      keep : {u v : ℕ} → Arc G w u v → Arc G (shut k d w) u v
-      keep a = elim (ℕ-discrete (a .link) k) [
-        | yes e ↦ ⊎-elim (λ q. other a e q) (λ q. reopen a (shut-says k d w _ _ .1 (a .free, λ (_, r). not-self d (sym r ∙ q)))) (either-way (a .way) d)
-        | no m ↦ reopen a (shut-says k d w _ _ .1 (a .free, λ (e, _). m e))
-      ]
-        where
-          other : {u v : ℕ} (a : Arc G w u v) → a .link ≡ k → a .way ≡ d → Arc G (shut k d w) u v
-          other a e q = record {
-            link = i;
-            way = d;
-            below = l;
-            free = shut-says k d w i d .1 (o, λ (s, _). n s);
-            starts = a .starts ∙ rw (e, q) (sym (parallel-end G i k t d));
-            ends = a .ends ∙ rw (e, q) (sym (parallel-end G i k t (not d)));
-          }
 
 -- ---- both ways shut, first the way (not d)
 
@@ -94,8 +94,8 @@ module _ {G : Net} (F : Fits G) (n : G .nodes ≤ 64) (O : Ordered G) (k : ℕ) 
   ways-shut : (before after : Bool) → Stays G w k d before after
       → Table G (shut k d (shut k (not d) w)) (cut rows (end G k d) (end G k (not d)) before after)
   unfolding cut
-  ways-shut before true S = keep-way F n O k h (keep-way F n O k h T (not d) (S .later refl (not d))) d (another-still (S .later refl d))
-  ways-shut true false S = keep-way F n O k h (shut-first (S .last refl)) d (another-still (S .earlier refl))
+  ways-shut before true S = keep-way (keep-way T k (not d) (S .later refl (not d))) k d (another-still (S .later refl d))
+  ways-shut true false S = keep-way (shut-first (S .last refl)) k d (another-still (S .earlier refl))
   ways-shut false false S = flip-way F n O k h (shut-first (S .last refl)) d still (only-still (S .alone refl refl))
 
   cut-way : (before after : Bool) → Stays G w k d before after → Table G (without k w) (cut rows (end G k d) (end G k (not d)) before after)
