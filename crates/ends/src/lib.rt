@@ -3,7 +3,7 @@
 ghost use mathlib.Core.Path.{_≡_};
 ghost use mathlib.Core.Bool.{true};
 ghost use Prim.Native.Nat.{ℕ, _+_, _<_, _≤_, min};
-ghost use Rattle.ends.specs.Ends.{Fits, Rising};
+ghost use Rattle.ends.specs.Ends.{lowOf, highOf, Fits, Rising};
 
 // How many entries there are.
 const ENTRIES: usize = 256;
@@ -19,6 +19,19 @@ pub fn lower(i: usize, j: usize) -> usize
     ensures { λ r. ⌜ r ≡ min i j ⌝ }
 {
     if i < j { i } else { j }
+}
+
+// The low and the high end of a link whose ends are this number.
+pub fn low_of(e: u16) -> u8
+    ensures { λ r. ⌜ r ≡ lowOf e ⌝ }
+{
+    (e / 256) as u8
+}
+
+pub fn high_of(e: u16) -> u8
+    ensures { λ r. ⌜ r ≡ highOf e ⌝ }
+{
+    (e % 256) as u8
 }
 
 // Whether the low end of each of the first entries is below its high end, and that a node.

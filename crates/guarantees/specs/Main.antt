@@ -409,7 +409,7 @@ module _ (m : Mesh) (ok : meshAnswer m ≡ Accepted) (root : ℕ) (inside : root
   collection-entries = let f = collects m ok root inside r c in (f .entries, f .first, f .last)
 
   -- each entry and the next are the ends of a tree link, which the walk crosses from the one to the other. Crossings are of links, so that two links between the same
-  -- nodes would not be taken for one
+  -- nodes are not taken for one
   pub collection-along : (j : ℕ) → suc j < length (routeOf m root)
       → Crosses (netOf m) (labelsOf m root) (crossing (crossings (netOf m) root (treeOf m root)) j) (at (routeOf m root) j) (at (routeOf m root) (suc j))
   collection-along = goes-each (collects m ok root inside r c .along)

@@ -2,23 +2,11 @@
 use crate::Answer;
 use crate::ends_answer;
 use crate::zero_link;
+use ends::high_of;
+use ends::low_of;
 ghost use mathlib.Core.Path.{_≡_};
 ghost use Prim.Native.Nat.{_≤_};
-ghost use Rattle.ends.specs.Ends.{lowOf, highOf};
 ghost use Rattle.mesh.specs.Parts.{entriesAnswer};
-
-// The low and the high end of a link whose ends are this number.
-fn low_of(e: u16) -> u8
-    ensures { λ r. ⌜ r ≡ lowOf e ⌝ }
-{
-    (e / 256) as u8
-}
-
-fn high_of(e: u16) -> u8
-    ensures { λ r. ⌜ r ≡ highOf e ⌝ }
-{
-    (e % 256) as u8
-}
 
 // The answer of the first entry that is refused.
 fn first_refusal(nodes: u8, count: usize, ends: &[u16; 256]) -> Answer

@@ -1,7 +1,9 @@
 // The planner's pass over the links, which gives directions and finds the lowest link whose removal parts the mesh. A mesh's links are given by their ends as
 // numbers, as `mesh::split` stores them.
+use ends::high_of;
+use ends::low_of;
 ghost use mathlib.Core.Path.{_≡_};
-ghost use Prim.Native.Nat.{_+_, _/_, _%_, _<_, _≤_};
+ghost use Prim.Native.Nat.{_+_, _<_, _≤_};
 ghost use Rattle.scan.specs.Test.{Says};
 ghost use Rattle.scan.specs.Entry.{at};
 ghost use Rattle.mesh.specs.declared.Mesh.{Mesh};
@@ -11,19 +13,6 @@ ghost use Rattle.planner.specs.Search.{Given, Directs};
 pub(crate) struct Directions {
     pub directions: [u8; 256],
     pub bridge: u16,
-}
-
-// The low and the high end of a link whose ends are e.
-fn low_of(e: u16) -> u8
-    ensures { λ r. ⌜ r ≡ e / 256 ⌝ }
-{
-    (e / 256) as u8
-}
-
-fn high_of(e: u16) -> u8
-    ensures { λ r. ⌜ r ≡ e % 256 ⌝ }
-{
-    (e % 256) as u8
 }
 
 // Whether the link after link i has its ends: links with the same ends stand next to each other, and entries past the last link are 0.

@@ -132,3 +132,8 @@ module _ (m : Mesh) (sized : length (m .links) ≡ 256) (bytes : (i : ℕ) → l
 
 pub parts-answer : (m : Mesh) → InRange m → partsAnswer (m .nodes) (m .count) (restZero m) (endsIn m) ≡ meshAnswer m
 parts-answer m ranges = bytes-answer m (ranges .entries) (λ i. ranges .links i .high)
+
+-- so is what is answered on the parts that a mesh is taken apart into
+pub split-answer : (m : Mesh) → InRange m → {zeros : Bool} {ends : List ℕ} {a : Answer} → zeros ≡ restZero m → ends ≡ endsInto m (replicate 256 0)
+    → a ≡ partsAnswer (m .nodes) (m .count) zeros ends → a ≡ meshAnswer m
+split-answer m ranges z e q = q ∙ (λ j. partsAnswer (m .nodes) (m .count) (z j) ((e ∙ ends-in m) j)) ∙ parts-answer m ranges

@@ -6,9 +6,9 @@ use Rattle.mesh.specs.declared.Mesh.{Mesh}
 use Rattle.mesh.specs.declared.Answer.the-variants.{Accepted}
 use Rattle.mesh.specs.Mesh.{meshAnswer}
 use Rattle.mesh.specs.WellFormed.{InRange}
-use Rattle.mesh.specs.Parts.{endsIn, partsAnswer}
+use Rattle.mesh.specs.Parts.{endsIn}
 use Rattle.mesh.specs.Laws.Checked.{passes, well-formed}
-use Rattle.mesh.specs.Laws.Parts.{ends-in, parts-answer}
+use Rattle.mesh.specs.Laws.Parts.{ends-in, split-answer}
 use Rattle.graph.specs.Net.{bothWays}
 use Rattle.graph.specs.Plan.{unreached}
 use Rattle.nets.specs.Nets.{netOf, Table}
@@ -38,10 +38,7 @@ module _ (c : tie.After-parts-answer) where
   stored = c .before .before .split .ensures .1 .0 ∙ ends-in mesh
 
   answered : c .parts-answer .result ≡ meshAnswer mesh
-  answered =
-      c .parts-answer .ensures
-      ∙ (λ j. partsAnswer (mesh .nodes) (mesh .count) (c .before .before .split .ensures .0 j) (stored j))
-      ∙ parts-answer mesh ranges
+  answered = let s = c .before .before .split .ensures in split-answer mesh ranges (s .0) (s .1 .0) (c .parts-answer .ensures)
 
 enum-told : tie.Need-enum-told
 enum-told c = search needs
