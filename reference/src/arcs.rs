@@ -3,8 +3,8 @@
 use crate::mesh::{Link, MOST_NODES};
 use crate::node_set::{only, take_lowest, NodeSet, PerNode};
 
-/// For each node the nodes that its arcs lead to and come from. A pair stands
-/// at most once in a mesh, so sets hold every arc.
+/// For each node the nodes that its arcs lead to and come from. Arcs of links
+/// between the same nodes are one in these sets.
 #[derive(Clone)]
 pub struct Arcs {
     leaving: PerNode<NodeSet>,
@@ -31,18 +31,23 @@ impl Arcs {
         &self.leaving
     }
 
-    /// Takes one of the link's two arcs away and gives the direction that is
-    /// left: 0 if every node then still reaches every other, otherwise 1.
-    /// Paths along the arc from high to low can go round it exactly if another
-    /// path leads from high to low.
-    pub fn direct(&mut self, link: &Link) -> u8 {
-        let (low, high) = nodes_of(link);
+    /// Directs the links of one span, all those between the same two nodes, and
+    /// gives the direction of the last one. The others have direction 0: as long
+    /// as a link of the span has both arcs, no node needs an arc of another. For
+    /// the last one it is 0 if every node still reaches every other without its
+    /// arc from high to low, otherwise 1. Paths along that arc can go round it
+    /// exactly if another path leads from high to low. The arc from low to high
+    /// goes only where no other link of the span has it.
+    pub fn direct(&mut self, span: &[Link]) -> u8 {
+        let (low, high) = nodes_of(&span[0]);
         self.remove(high, low);
         if self.go_round(high, low) {
             return 0;
         }
         self.add(high, low);
-        self.remove(low, high);
+        if span.len() == 1 {
+            self.remove(low, high);
+        }
         1
     }
 

@@ -232,8 +232,8 @@ mod tests {
         wrong.links[255].duct = 1;
         assert_refuses(&wrong, 5, 0, Reason::IllFormed, 0);
         assert_refuses(&wrong, 0, 9, Reason::IllFormed, 0);
-        wrong.links[2] = wrong.links[1];
-        assert_refuses(&wrong, 5, 0, Reason::NotAfterPrevious, 2);
+        wrong.links[2] = wrong.links[0];
+        assert_refuses(&wrong, 5, 0, Reason::BelowPrevious, 2);
         wrong.links[2].high = 5;
         assert_refuses(&wrong, 5, 0, Reason::EndNotBelowNodes, 2);
         wrong.links[2].low = 5;

@@ -3,6 +3,7 @@
 pub mod accepted;
 pub mod changed;
 pub mod collections;
+pub mod doubled;
 pub mod draft;
 pub mod drills;
 pub mod ducts;
@@ -34,7 +35,8 @@ use crate::random::Random;
 /// All cases of the corpus: books first, then mesh records, then plannings,
 /// then scripts, then books to list, then old sessions, then duct queries, then
 /// collection routes, then drills: their inputs, their meshes and scripts on
-/// these. Those about ducts are drawn aside.
+/// these; then all kinds but those of drills again, on meshes with several links
+/// between the same nodes. Those about ducts are drawn aside.
 pub fn make(seed: u64) -> Vec<Case> {
     let mut random = Random::new(seed);
     let mut aside = random.aside();
@@ -60,6 +62,7 @@ pub fn make(seed: u64) -> Vec<Case> {
     cases.extend(ducts::queries::cases(&mut aside));
     cases.extend(collections::cases(seed));
     cases.extend(drills::cases(seed));
+    cases.extend(doubled::cases(seed));
     cases
 }
 

@@ -161,8 +161,8 @@ mod tests {
         wrong.links[255].duct = 1;
         assert_refuses(&wrong, 0, 3, Reason::IllFormed, 0);
         assert_refuses(&wrong, 3, 0, Reason::IllFormed, 0);
-        wrong.links[2] = wrong.links[1];
-        assert_refuses(&wrong, 3, 0, Reason::NotAfterPrevious, 2);
+        wrong.links[2] = wrong.links[0];
+        assert_refuses(&wrong, 3, 0, Reason::BelowPrevious, 2);
         wrong.links[2].high = 24;
         assert_refuses(&wrong, 3, 0, Reason::EndNotBelowNodes, 2);
         wrong.links[2].low = 24;

@@ -122,7 +122,7 @@ pub fn check_ends(ends: Ends, previous: Option<Ends>, nodes: u8, place: usize) -
     // 6: both ends are below N.
     let outside = low >= nodes || high >= nodes;
     refuse_if(outside, Reason::EndNotBelowNodes, place)?;
-    // 8: links stand in strictly rising order of (low, high).
-    let not_after = previous.is_some_and(|previous| ends <= previous);
-    refuse_if(not_after, Reason::NotAfterPrevious, place)
+    // 8: the pair (low, high) is not below the previous one; equal pairs stand.
+    let below = previous.is_some_and(|previous| ends < previous);
+    refuse_if(below, Reason::BelowPrevious, place)
 }

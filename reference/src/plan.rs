@@ -1,7 +1,9 @@
 //! The plan: a direction for each link.
 
+use std::ops::Range;
+
 use crate::arcs::Arcs;
-use crate::mesh::{Mesh, MOST_LINKS};
+use crate::mesh::{Link, Mesh, MOST_LINKS};
 use crate::refusal::{Answer, Reason, Refusal};
 use crate::tree::Tree;
 
@@ -38,16 +40,21 @@ fn check(mesh: &Mesh) -> Result<Arcs, Refusal> {
     let tree = Tree::from_0(arcs.leaving());
     tree.check_nodes(mesh.nodes)?;
     // 21: the place is the lowest link whose removal parts the mesh.
-    if let Some((low, high)) = tree.lowest_parting() {
-        let link = number_of(mesh, (low.into(), high.into()));
+    let is_single = |ends| span_of(mesh, ends).len() == 1;
+    if let Some(ends) = tree.lowest_parting(is_single) {
+        let link = span_of(mesh, ends).start;
         return Err(Refusal::new(Reason::RemovalParts, link));
     }
     Ok(arcs)
 }
 
-/// The number of the link with these ends: links stand in rising order.
-fn number_of(mesh: &Mesh, ends: (u16, u16)) -> usize {
-    mesh.counted().partition_point(|link| link.ends() < ends)
+/// The numbers of the links with these ends: equal pairs are neighbours.
+fn span_of(mesh: &Mesh, (low, high): (u8, u8)) -> Range<usize> {
+    let ends = (low.into(), high.into());
+    let links = mesh.counted();
+    let start = links.partition_point(|link| link.ends() < ends);
+    let above = links[start..].iter().position(|link| link.ends() != ends);
+    start..above.map_or(links.len(), |count| start + count)
 }
 
 /// The first admissible assignment, 0 before 1, link by link. Directions for
@@ -56,8 +63,14 @@ fn number_of(mesh: &Mesh, ends: (u16, u16)) -> usize {
 /// no remaining link's removal parts the mesh (Boesch and Tindell, 1980).
 fn first_admissible(mesh: &Mesh, mut arcs: Arcs) -> Plan {
     let mut plan = Plan::ZERO;
-    for (direction, link) in plan.directions.iter_mut().zip(mesh.counted()) {
-        *direction = arcs.direct(link);
+    let mut end = 0;
+    for span in mesh.counted().chunk_by(have_same_ends) {
+        end += span.len();
+        plan.directions[end - 1] = arcs.direct(span);
     }
     plan
+}
+
+fn have_same_ends(first: &Link, second: &Link) -> bool {
+    (first.low, first.high) == (second.low, second.high)
 }

@@ -11,7 +11,7 @@ pub enum Reason {
     ReservedBit = 5,
     EndNotBelowNodes = 6,
     LowNotBelowHigh = 7,
-    NotAfterPrevious = 8,
+    BelowPrevious = 8,
     NeedlessField = 9,
     BytesAfterLast = 10,
     OutputShort = 11,

@@ -131,8 +131,8 @@ fn ends_in_words(refusal: Refusal, ends: Ends, previous: Option<Ends>, nodes: u8
     let (low, high) = ends;
     match (refusal.reason, previous) {
         (Reason::LowNotBelowHigh, _) => format!("low end {low} is not below high end {high}"),
-        (Reason::NotAfterPrevious, Some((before_low, before_high))) => {
-            format!("pair {low} {high} is not after the previous pair {before_low} {before_high}")
+        (Reason::BelowPrevious, Some((before_low, before_high))) => {
+            format!("pair {low} {high} is below the previous pair {before_low} {before_high}")
         }
         // The low end is below the high end here.
         _ => format!("end {high} is not below {nodes}, the number of nodes"),
@@ -252,17 +252,29 @@ mod tests {
             ),
             ("2 1", "refused 7: low end 2 is not below high end 1"),
             ("9 9", "refused 7: low end 9 is not below high end 9"),
-            (
-                "0 2",
-                "refused 8: pair 0 2 is not after the previous pair 0 3",
-            ),
-            (
-                "0 3",
-                "refused 8: pair 0 3 is not after the previous pair 0 3",
-            ),
+            ("0 2", "refused 8: pair 0 2 is below the previous pair 0 3"),
         ] {
             assert_fault(&table(line), &format!("line 4: {expected}"));
         }
+    }
+
+    #[test]
+    fn equal_pairs_stand_in_the_order_of_their_lines() {
+        let text = "nodes 2\n0 1 300\n0 1 200 7\n0 1\n0 1 0 0 9\n";
+        let mesh = read(text).unwrap();
+        let expected = [
+            link(0, 1, 300, 0, 0),
+            link(0, 1, 200, 7, 0),
+            link(0, 1, 0, 0, 0),
+            link(0, 1, 0, 0, 9),
+        ];
+        assert_eq!(mesh, Mesh::new(2, &expected));
+        assert_eq!(text_of(&mesh), text);
+        let after_equal = "nodes 3\n0 2\n0 2\n0 1\n";
+        assert_fault(
+            after_equal,
+            "line 4: refused 8: pair 0 1 is below the previous pair 0 2",
+        );
     }
 
     #[test]

@@ -52,9 +52,9 @@ impl<'a> Tree<'a> {
     }
 
     /// The lowest pair (low, high) whose link alone joins two parts. Such a
-    /// link is in the tree, and from the child and the nodes below it no other
-    /// link leads out.
-    pub fn lowest_parting(&self) -> Option<(u8, u8)> {
+    /// pair is in the tree, no other pair leads out of the child and the nodes
+    /// below it, and the pair is single: it stands once in the mesh.
+    pub fn lowest_parting(&self, is_single: impl Fn((u8, u8)) -> bool) -> Option<(u8, u8)> {
         let mut below: PerNode<NodeSet> = [0; NODES];
         let mut near_below: PerNode<NodeSet> = [0; NODES];
         let mut found = None;
@@ -65,7 +65,8 @@ impl<'a> Tree<'a> {
             let near_part = near_below[child] | self.near[child] & !only(parent);
             if near_part & !part == 0 {
                 let ends = (child.min(parent) as u8, child.max(parent) as u8);
-                found = found.into_iter().chain([ends]).min();
+                let parting = Some(ends).filter(|ends| is_single(*ends));
+                found = found.into_iter().chain(parting).min();
             }
             below[parent] |= part;
             near_below[parent] |= near_part;

@@ -1,5 +1,7 @@
 //! A plain planner in two passes over the links, to measure the planner
 //! against: the first removes each link in turn (21), the second directs them.
+//! A link that another one with the same ends stands beside has its arcs in
+//! common with that one.
 
 use crate::arcs::nodes_of;
 use crate::mesh::{Mesh, MOST_NODES};
@@ -25,6 +27,9 @@ fn check(mesh: &Mesh) -> Result<Leaving, Refusal> {
     let missing = all_below(mesh.nodes) & !search(&leaving, 0, 0);
     refuse_if(missing != 0, Reason::NoPath, lowest(missing))?;
     for (number, link) in mesh.counted().iter().enumerate() {
+        if repeats_before(mesh, number) || repeats_after(mesh, number) {
+            continue;
+        }
         let (low, high) = nodes_of(link);
         leaving[low] &= !only(high);
         leaving[high] &= !only(low);
@@ -46,19 +51,37 @@ fn both_ways(mesh: &Mesh) -> Leaving {
     leaving
 }
 
-/// Each link 0 if without its other arc a path still leads from high to low.
+/// Each link 0 if without its other arc a path still leads from high to low: the
+/// arc of a later link with the same ends is such a path.
 fn directions(mesh: &Mesh, mut leaving: Leaving) -> Plan {
     let mut plan = Plan::ZERO;
-    for (direction, link) in plan.directions.iter_mut().zip(mesh.counted()) {
+    for (number, link) in mesh.counted().iter().enumerate() {
+        if repeats_after(mesh, number) {
+            continue;
+        }
         let (low, high) = nodes_of(link);
         leaving[high] &= !only(low);
-        if search(&leaving, high, only(low)) & only(low) == 0 {
-            leaving[high] |= only(low);
+        if search(&leaving, high, only(low)) & only(low) != 0 {
+            continue;
+        }
+        plan.directions[number] = 1;
+        leaving[high] |= only(low);
+        if !repeats_before(mesh, number) {
             leaving[low] &= !only(high);
-            *direction = 1;
         }
     }
     plan
+}
+
+/// Whether the link before has the same ends.
+fn repeats_before(mesh: &Mesh, number: usize) -> bool {
+    number > 0 && mesh.links[number - 1].ends() == mesh.links[number].ends()
+}
+
+/// Whether the link after, which the last one does not have, has the same ends.
+fn repeats_after(mesh: &Mesh, number: usize) -> bool {
+    let next = mesh.counted().get(number + 1);
+    next.is_some_and(|next| next.ends() == mesh.links[number].ends())
 }
 
 /// The nodes that a node reaches; only those seen so far once one of the goals

@@ -189,8 +189,11 @@ fn mesh_checks_in_order() {
     wrong.links[255].duct = 0;
     wrong.links[255].pair = 1;
     assert_eq!(wrong.check(), refused(Reason::IllFormed, 0));
+    // Equal pairs stand, so 13 is met; a pair below the previous one is 8.
     wrong.links[2] = wrong.links[1];
-    assert_eq!(wrong.check(), refused(Reason::NotAfterPrevious, 2));
+    assert_eq!(wrong.check(), refused(Reason::IllFormed, 0));
+    wrong.links[2] = wrong.links[0];
+    assert_eq!(wrong.check(), refused(Reason::BelowPrevious, 2));
     wrong.links[2].high = 3;
     assert_eq!(wrong.check(), refused(Reason::EndNotBelowNodes, 2));
     wrong.links[2].low = 3;

@@ -37,7 +37,7 @@ fn a_faulty_table_is_answered_on_stderr_alone() {
     let output = run(&["book"], b"# p\nnodes 4\n\n0 1\n0 3\n# q\n0 2\n9 9\n");
     assert_eq!(output.status.code(), Some(1));
     assert!(output.stdout.is_empty());
-    let expected = "line 7: refused 8: pair 0 2 is not after the previous pair 0 3\n";
+    let expected = "line 7: refused 8: pair 0 2 is below the previous pair 0 3\n";
     assert_eq!(String::from_utf8(output.stderr).unwrap(), expected);
 }
 

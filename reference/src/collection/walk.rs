@@ -49,7 +49,7 @@ mod tests {
     use super::super::tree_links;
     use super::*;
     use crate::corpus::meshes::plain;
-    use crate::corpus::shapes::{ears, ring, Shape};
+    use crate::corpus::shapes::{ears, repeated, ring};
     use crate::random::Random;
 
     /// The route of a mesh, and the numbers of the tree links.
@@ -59,18 +59,12 @@ mod tests {
         (route, tree_links(&tree).collect())
     }
 
-    /// Each link of the shape as often as `times` says.
-    fn repeated(shape: &[(u8, u8)], mut times: impl FnMut() -> usize) -> Shape {
-        let copies = |ends: &(u8, u8)| vec![*ends; times()];
-        shape.iter().flat_map(copies).collect()
-    }
-
     #[test]
     fn the_lowest_of_two_links_between_the_same_nodes_is_a_tree_link() {
         let two = [(0, 1), (0, 1)];
         assert_eq!(walked(2, &two, 0), (vec![0, 1, 0], vec![0]));
         assert_eq!(walked(2, &two, 1), (vec![1, 0, 1], vec![0]));
-        let doubled = repeated(&ring(4), || 2);
+        let doubled = repeated(&ring(4), |_| 2);
         let route = vec![2, 1, 0, 3, 0, 1, 2];
         assert_eq!(walked(4, &doubled, 2), (route, vec![0, 2, 4]));
     }
@@ -82,7 +76,7 @@ mod tests {
             let nodes = random.between(3, 30) as u8;
             let root = random.below(nodes.into()) as u8;
             let once = ears(nodes, random);
-            let more = repeated(&once, || random.between(1, 3));
+            let more = repeated(&once, |_| random.between(1, 3));
             let (route, tree) = walked(nodes, &once, root);
             // The first link of `more` with the same ends.
             let lowest = |link| more.partition_point(|ends| *ends < once[usize::from(link)]);

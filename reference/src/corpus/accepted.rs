@@ -77,8 +77,7 @@ fn every_length_and_pair() -> Vec<Mesh> {
 }
 
 /// Each bit map without a duct in the first, a middle and the last record of
-/// five. Only the first record can lack both ends: a later one would repeat a
-/// pair (8).
+/// five. Only the first record lacks both ends: a later one would repeat a pair.
 fn every_bit_map() -> Vec<Mesh> {
     bit_maps(0..16)
 }

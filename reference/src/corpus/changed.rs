@@ -30,7 +30,7 @@ fn every_value_of_every_byte(book: &[u8]) -> Vec<Vec<u8>> {
 }
 
 /// One of the books with a random byte changed.
-fn one_byte_changed(books: &[&Vec<u8>], random: &mut Random) -> Vec<u8> {
+pub fn one_byte_changed(books: &[&Vec<u8>], random: &mut Random) -> Vec<u8> {
     let mut changed = random.pick(books).clone();
     let at = random.below(changed.len());
     changed[at] = match random.below(4) {

@@ -4,7 +4,7 @@ pub mod apart;
 pub mod fields;
 pub mod largest;
 #[cfg(test)]
-mod met;
+pub mod met;
 pub mod named;
 pub mod no_roots;
 pub mod random_ones;
@@ -31,7 +31,7 @@ pub fn cases(seed: u64) -> Vec<Case> {
     cases
 }
 
-fn case(room: usize, root: u8, mesh: &Mesh) -> Case {
+pub fn case(room: usize, root: u8, mesh: &Mesh) -> Case {
     Case::Collection {
         room: room.min(MOST_ENTRIES) as u16,
         root,
@@ -40,6 +40,6 @@ fn case(room: usize, root: u8, mesh: &Mesh) -> Case {
 }
 
 /// How many entries a route over all nodes has.
-fn needed(mesh: &Mesh) -> usize {
+pub fn needed(mesh: &Mesh) -> usize {
     (2 * usize::from(mesh.nodes)).saturating_sub(1)
 }

@@ -37,15 +37,22 @@ fn sweeps() -> Vec<Case> {
     around.chain(large).collect()
 }
 
+/// A room around that of the book; any where the mesh is wrong or a pair stands
+/// twice.
 fn with_room(mesh: Mesh, random: &mut Random) -> Case {
     let length = match mesh.check() {
-        Ok(()) => bytes_of(&mesh).len(),
-        Err(_) => random.below(60),
+        Ok(()) if each_pair_once(&mesh) => bytes_of(&mesh).len(),
+        _ => random.below(60),
     };
     case(room(length, random), &mesh)
 }
 
-fn case(room: u16, mesh: &Mesh) -> Case {
+fn each_pair_once(mesh: &Mesh) -> bool {
+    let mut pairs = mesh.counted().windows(2);
+    pairs.all(|two| two[0].ends() != two[1].ends())
+}
+
+pub fn case(room: u16, mesh: &Mesh) -> Case {
     Case::Mesh {
         room,
         mesh: Box::new(mesh.clone()),

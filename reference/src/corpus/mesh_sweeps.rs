@@ -15,7 +15,7 @@ pub fn meshes() -> Vec<(Mesh, Mesh)> {
 }
 
 /// Meshes with 256 links: 13 for too low an L, 4 for too high a one, and 7, 6
-/// and 8 all over the links.
+/// and pairs that are repeated all over the links.
 pub fn meshes_with_256_links() -> Vec<Mesh> {
     let counts = [0, 1, 127, 128].into_iter().chain(253..=260);
     let mut meshes: Vec<Mesh> = counts.map(|count| with_count(&dense(), count)).collect();
@@ -23,7 +23,8 @@ pub fn meshes_with_256_links() -> Vec<Mesh> {
     meshes
 }
 
-/// 7, 6 and 8, each at links far from each other, the last one among them.
+/// 7, 6 and pairs that are repeated, each at links far from each other, the last
+/// one among them.
 pub fn wrong_links(base: &Mesh) -> Vec<Mesh> {
     let places = (0..base.counted().len()).step_by(17);
     places.map(|at| with_wrong_link(base, at)).collect()
@@ -110,6 +111,7 @@ mod tests {
         let good = |meshes: Vec<Mesh>| meshes.iter().filter(|mesh| mesh.check().is_ok()).count();
         assert_eq!(good(every_number_of_nodes(&p5())), 61);
         assert_eq!(good(every_count(&p5())), 1);
-        assert_eq!(good(meshes_with_256_links()), 1);
+        // One with all of its links, and those with a pair that is repeated.
+        assert_eq!(good(meshes_with_256_links()), 1 + 5);
     }
 }

@@ -1,4 +1,5 @@
-//! Graphs as lists of ends, in strictly rising order of (low, high).
+//! Graphs as lists of ends, in rising order of (low, high). Each pair stands once,
+//! save where links are repeated.
 
 use crate::random::Random;
 
@@ -106,6 +107,12 @@ pub fn chosen(nodes: u8, choice: usize) -> Shape {
     let numbered = (0..).zip(complete(nodes));
     let kept = numbered.filter(|(number, _)| choice >> number & 1 == 1);
     kept.map(|(_, ends)| ends).collect()
+}
+
+/// Each link of the shape as often as `times` says of its ends.
+pub fn repeated(shape: &[(u8, u8)], mut times: impl FnMut((u8, u8)) -> usize) -> Shape {
+    let copies = |ends: &(u8, u8)| vec![*ends; times(*ends)];
+    shape.iter().flat_map(copies).collect()
 }
 
 /// The pairs in rising order, each once.

@@ -1,4 +1,4 @@
-//! Meshes that the mesh checks refuse.
+//! Meshes that the mesh checks refuse, and meshes in which a pair is repeated.
 
 use crate::mesh::{Link, Mesh};
 
@@ -35,7 +35,7 @@ fn wrong_numbers(base: &Mesh) -> Vec<Mesh> {
     meshes
 }
 
-/// 7, 6 and 8 in the first, a middle and the last link.
+/// 7, 6, 8 and a pair that is repeated in the first, a middle and the last link.
 fn wrong_links(base: &Mesh) -> Vec<Mesh> {
     let last = base.counted().len() - 1;
     let mut meshes = Vec::new();
@@ -55,7 +55,7 @@ fn wrong_ends(base: &Mesh, at: usize) -> Vec<(u8, u8)> {
     // 6.
     ends.extend([(low, nodes), (nodes - 1, nodes), (nodes, nodes + 1)]);
     ends.extend([(low, 255), (254, 255)]);
-    // 8, and 6 with 8.
+    // The pair before again, 8, and 6 with 8.
     if let Some(before) = at.checked_sub(1) {
         let Link { low, high, .. } = base.links[before];
         ends.push((low, high));
@@ -80,7 +80,8 @@ pub fn with_ends(base: &Mesh, at: usize, low: u8, high: u8) -> Mesh {
     mesh
 }
 
-/// The mesh with 7, 6 or 8 at one link, by turns; not 8 at link 0.
+/// The mesh with 7, 6 or the pair before again at one link, by turns; not the last
+/// of these at link 0.
 pub fn with_wrong_link(base: &Mesh, at: usize) -> Mesh {
     let Link { low, high, .. } = base.links[at];
     match at % 3 {
@@ -98,7 +99,7 @@ fn several_wrong(base: &Mesh) -> Vec<Mesh> {
     let last = base.counted().len() - 1;
     let same = base.links[0];
     let mut meshes = Vec::new();
-    // 7, 6 or 8 at link 1, then 7 or 6 at the last link.
+    // 7, 6 or the pair before again at link 1, then 7 or 6 at the last link.
     for (low, high) in [(3, 3), (3, 255), (same.low, same.high)] {
         let earlier = with_ends(base, 1, low, high);
         meshes.push(with_ends(&earlier, last, 2, 1));

@@ -1,4 +1,5 @@
-//! Meshes to plan that the mesh checks refuse, whatever planning would say.
+//! Meshes to plan that the mesh checks refuse, whatever planning would say, and
+//! the same meshes with a pair that is repeated.
 
 use super::graphs::side_by_side;
 use super::meshes::plain;
@@ -56,7 +57,7 @@ fn wrong_ends(base: &Mesh) -> Vec<Mesh> {
     meshes
 }
 
-/// 8: a pair twice, and two pairs in the wrong order.
+/// A pair twice, and 8: two pairs in the wrong order.
 fn wrong_order(base: &Mesh) -> Vec<Mesh> {
     let last = base.counted().len() - 1;
     let mut meshes = Vec::new();
@@ -75,7 +76,7 @@ fn no_links() -> Vec<Mesh> {
     [0, 1, 65, 255].map(|nodes| plain(nodes, &[])).into()
 }
 
-/// 7, 6 and 8 in the last of 256 links, and 3.
+/// 7, 6 and a pair that is repeated in the last of 256 links, and 3.
 fn many_links(random: &mut Random) -> Vec<Mesh> {
     let base = plain(64, &shapes::scattered(64, 256, random));
     let before = base.links[254];
@@ -87,7 +88,7 @@ fn many_links(random: &mut Random) -> Vec<Mesh> {
     ]
 }
 
-/// 7, 6 and 8 by turns in the last of 1 to 256 links.
+/// 7, 6 and a pair that is repeated by turns in the last of 1 to 256 links.
 fn every_position() -> Vec<Mesh> {
     let all = dense();
     let with_wrong_last = |last: usize| {
@@ -107,8 +108,12 @@ mod tests {
         for seed in 0..20 {
             for mesh in meshes(&mut Random::new(seed)) {
                 let refused = mesh.check();
-                assert!(refused.is_err());
-                assert_eq!(plan(&mesh), (Plan::ZERO, refused));
+                let mut pairs = mesh.counted().windows(2);
+                let repeats = pairs.any(|two| two[0].ends() == two[1].ends());
+                assert_eq!(refused.is_ok(), repeats);
+                if !repeats {
+                    assert_eq!(plan(&mesh), (Plan::ZERO, refused));
+                }
             }
         }
     }

@@ -1,11 +1,14 @@
-//! Records that a reader refuses.
+//! Records that a reader refuses, and records that repeat the previous pair.
 
 use crate::mesh::{Link, Mesh};
 use crate::record::{low_when_absent, Record};
 use crate::refusal::Reason;
+#[cfg(test)]
+use crate::refusal::{Answer, Refusal};
 
-/// A wrong record and the refusal that it meets first.
-pub type Fault = (Reason, Record);
+/// A wrong record and the refusal that it meets first; none for a record that
+/// repeats the previous pair, which stands.
+pub type Fault = (Option<Reason>, Record);
 
 /// A link and what its record depends on.
 pub struct Spot {
@@ -50,7 +53,7 @@ pub fn faults(spot: &Spot) -> Vec<Fault> {
     faults.extend(needless_fields(spot));
     faults.extend(low_not_below_high(spot));
     faults.extend(end_not_below_nodes(spot));
-    faults.extend(not_after_previous(spot));
+    faults.extend(up_to_previous(spot));
     faults.extend(reserved_and_other(spot));
     faults.extend(needless_and_other(spot));
     faults.extend(ends_with_two_faults(spot));
@@ -124,8 +127,8 @@ fn end_not_below_nodes(spot: &Spot) -> Vec<Fault> {
     met_by(Reason::EndNotBelowNodes, records)
 }
 
-/// 8, equal and falling pairs; a first record cannot meet it.
-fn not_after_previous(spot: &Spot) -> Vec<Fault> {
+/// The previous pair again, and 8, pairs below it; a first record has neither.
+fn up_to_previous(spot: &Spot) -> Vec<Fault> {
     let Some(previous) = spot.previous else {
         return Vec::new();
     };
@@ -140,7 +143,9 @@ fn not_after_previous(spot: &Spot) -> Vec<Fault> {
         records.push(spot.with_ends(low - 1, spot.nodes - 1));
         records.push(spot.with_ends(0, low));
     }
-    met_by(Reason::NotAfterPrevious, records)
+    let is_below = |record: &Record| record.ends(Some(&previous)) < previous.ends();
+    let fault = |record| (is_below(&record).then_some(Reason::BelowPrevious), record);
+    records.into_iter().map(fault).collect()
 }
 
 /// The bit maps 0, 4, 8 and 12: both ends are absent.
@@ -161,12 +166,12 @@ fn without_ends() -> Vec<Record> {
     records
 }
 
-/// 5 before 9, 7, 6 and 8.
+/// 5 before 9, 7 and 6, and with the previous pair again.
 fn reserved_and_other(spot: &Spot) -> Vec<Fault> {
     let mut others = needless_fields(spot);
     others.extend(low_not_below_high(spot).first());
     others.extend(end_not_below_nodes(spot).first());
-    others.extend(not_after_previous(spot).first());
+    others.extend(up_to_previous(spot).first());
     let with_bit = |(_, record): Fault| Record {
         reserved: 0x20,
         ..record
@@ -174,7 +179,7 @@ fn reserved_and_other(spot: &Spot) -> Vec<Fault> {
     met_by(Reason::ReservedBit, others.into_iter().map(with_bit))
 }
 
-/// 9 before 7, 6 and 8.
+/// 9 before 7 and 6, and with the previous pair again.
 fn needless_and_other(spot: &Spot) -> Vec<Fault> {
     let record = spot.record();
     let (low, nodes) = (spot.link.low, spot.nodes);
@@ -254,5 +259,17 @@ fn ends_with_two_faults(spot: &Spot) -> Vec<Fault> {
 }
 
 pub fn met_by(reason: Reason, records: impl IntoIterator<Item = Record>) -> Vec<Fault> {
-    records.into_iter().map(|record| (reason, record)).collect()
+    let met = |record| (Some(reason), record);
+    records.into_iter().map(met).collect()
+}
+
+/// Whether a book answers so with the fault in the record at this place. Where
+/// the record repeats a pair, a later one may be refused.
+#[cfg(test)]
+pub fn is_met(fault: &Fault, place: usize, answer: Answer) -> bool {
+    match (fault.0, answer) {
+        (Some(reason), answer) => answer == Err(Refusal::new(reason, place)),
+        (None, Ok(())) => true,
+        (None, Err(refusal)) => refusal.place > place,
+    }
 }

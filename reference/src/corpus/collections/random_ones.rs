@@ -48,7 +48,7 @@ fn scattered(random: &mut Random) -> Mesh {
 }
 
 /// Any root, and mostly an output with room for the route.
-fn asked(mesh: &Mesh, random: &mut Random) -> Case {
+pub fn asked(mesh: &Mesh, random: &mut Random) -> Case {
     let root = random.below(mesh.nodes.into()) as u8;
     let needed = needed(mesh);
     let room = match random.below(10) {

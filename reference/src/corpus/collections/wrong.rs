@@ -1,4 +1,5 @@
-//! Meshes that the mesh checks refuse, with roots and outputs of every kind.
+//! Meshes that the mesh checks refuse, and some in which a pair is repeated, with
+//! roots and outputs of every kind.
 
 use super::super::ducts::records::{past_count, several_wrong};
 use super::super::graphs::side_by_side;
@@ -62,9 +63,10 @@ mod tests {
             };
             let cases: Vec<Case> = cases.iter().filter(is_asked).cloned().collect();
             let met = met(&cases);
-            for number in [3, 4, 6, 7, 8, 13] {
+            for number in [3, 4, 6, 7, 13] {
                 assert!(met[&number] >= 3, "{asked:?} {met:?}");
             }
+            assert!(met[&8] >= 1, "{asked:?} {met:?}");
         }
     }
 

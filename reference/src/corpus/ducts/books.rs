@@ -95,7 +95,7 @@ fn with_record(mesh: &Mesh, at: usize, record: Record) -> Draft {
 }
 
 /// Before the duct's first and before its second byte: 1, with a duct, with one
-/// of 0, or of a pair that is not after the previous; 5 with a reserved bit.
+/// of 0, or of a record without ends; 5 with a reserved bit.
 fn cut_off_in_the_duct(mesh: &Mesh) -> Vec<Vec<u8>> {
     let mut books = Vec::new();
     for at in places(mesh) {
@@ -192,6 +192,7 @@ fn longest_with_extra(random: &mut Random) -> Vec<u8> {
 
 #[cfg(test)]
 mod tests {
+    use super::super::super::wrong_records::is_met;
     use super::*;
     use crate::book::decode;
     use crate::refusal::{Reason, Refusal};
@@ -208,8 +209,7 @@ mod tests {
                     let place = Draft::of(&mesh).place_of(at);
                     for fault in duct_faults(&Spot::of(&mesh, at)) {
                         let book = with_record(&mesh, at, fault.1).bytes();
-                        let expected = Refusal::new(fault.0, place);
-                        assert_eq!(refusal(&book), Some(expected), "{fault:?}");
+                        assert!(is_met(&fault, place, decode(&book).1), "{fault:?}");
                     }
                 }
             }

@@ -24,13 +24,13 @@ fn turned(spot: &Spot) -> Vec<Fault> {
     faults(spot).into_iter().enumerate().map(turn).collect()
 }
 
-/// A duct of 0: 9, alone, with every other field needless, and before 7, 6 and
-/// 8; after 5.
+/// A duct of 0: 9, alone, with every other field needless, with the previous pair
+/// again, and before 7, 6 and 8; after 5.
 fn needless(spot: &Spot) -> Vec<Fault> {
     let duct = Some(0);
     let with_zero = |(reason, record): Fault| match reason {
-        Reason::ReservedBit => (reason, Record { duct, ..record }),
-        _ => (Reason::NeedlessField, Record { duct, ..record }),
+        Some(Reason::ReservedBit) => (reason, Record { duct, ..record }),
+        _ => (Some(Reason::NeedlessField), Record { duct, ..record }),
     };
     let alone = Record {
         duct,

@@ -25,7 +25,7 @@ pub fn cases(random: &mut Random) -> Vec<Case> {
     cases
 }
 
-fn case(room: usize, link: u16, mesh: &Mesh) -> Case {
+pub fn case(room: usize, link: u16, mesh: &Mesh) -> Case {
     Case::Ducts {
         room: room.min(MOST_ENTRIES) as u16,
         link,
@@ -34,12 +34,12 @@ fn case(room: usize, link: u16, mesh: &Mesh) -> Case {
 }
 
 /// How many links share the duct of a link.
-fn needed(mesh: &Mesh, link: u16) -> usize {
+pub fn needed(mesh: &Mesh, link: u16) -> usize {
     sharing(mesh, link, &mut [0; MOST_LINKS]).unwrap_or(0)
 }
 
 /// With no room, one entry too few, as many as needed, and more.
-fn every_room(mesh: &Mesh, link: u16) -> Vec<Case> {
+pub fn every_room(mesh: &Mesh, link: u16) -> Vec<Case> {
     let needed = needed(mesh, link);
     let mut rooms = vec![0, needed.saturating_sub(1), needed, needed + 1, needed + 6];
     rooms.dedup();
@@ -65,7 +65,7 @@ fn smallest() -> Vec<Case> {
     cases
 }
 
-fn every_link(mesh: &Mesh) -> Vec<Case> {
+pub fn every_link(mesh: &Mesh) -> Vec<Case> {
     (0..mesh.count)
         .flat_map(|link| every_room(mesh, link))
         .collect()

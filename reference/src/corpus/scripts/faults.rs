@@ -67,7 +67,7 @@ fn wrong_reached(good: &Session, wavelength: Wavelength) -> Vec<Session> {
     [nodes, (nodes + last) / 2, last].map(with).into()
 }
 
-/// 3, 4, 6, 7, 8 and 13 of the mesh.
+/// 3, 4, 6, 7, 8 and 13 of the mesh, and pairs that are repeated.
 fn wrong_mesh(good: &Session) -> Vec<Session> {
     let mesh = &good.mesh;
     let mut meshes = vec![

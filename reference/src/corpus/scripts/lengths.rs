@@ -86,7 +86,7 @@ fn each_sum(random: &mut Random) -> Vec<Script> {
     scripts
 }
 
-fn every_cut(mesh: &Mesh, random: &mut Random) -> Script {
+pub fn every_cut(mesh: &Mesh, random: &mut Random) -> Script {
     let mut caller = Caller::new(mesh, Origin::OwnPlan, random);
     for link in 0..mesh.count {
         caller.make_all(&[Call::Cut(link), Call::Run(u32::MAX)]);
@@ -98,7 +98,7 @@ fn every_cut(mesh: &Mesh, random: &mut Random) -> Script {
 }
 
 /// Deliveries in random order up to rest, with a status after each.
-fn delivered(mesh: &Mesh, random: &mut Random) -> Script {
+pub fn delivered(mesh: &Mesh, random: &mut Random) -> Script {
     let mut caller = Caller::new(mesh, Origin::OwnPlan, random);
     ask(&mut caller, 1);
     let link = caller.inner_link();

@@ -7,35 +7,47 @@ use crate::random::Random;
 use crate::script::{Call, Origin, Script};
 
 /// Adds calls to a script, as many as fit a mesh of some size.
-type Part = fn(&mut Caller, Size);
+pub type Part = fn(&mut Caller, Size);
 
 /// A mesh of a size.
-type Ground = fn(&mut Random) -> Mesh;
+pub type Ground = fn(&mut Random) -> Mesh;
 
 #[derive(Clone, Copy)]
-enum Size {
+pub enum Size {
     Small,
     Middle,
     Largest,
 }
 
+/// How many on small, middle and the largest meshes.
+pub type Times = [usize; 3];
+
+const TIMES: [Times; 5] = [
+    [90, 28, 2],
+    [45, 20, 2],
+    [25, 14, 2],
+    [80, 34, 2],
+    [50, 24, 2],
+];
+
 pub fn scripts(random: &mut Random) -> Vec<Script> {
-    let mut scripts = Vec::new();
-    let parts: [(Part, [usize; 3]); 5] = [
-        (floods, [90, 28, 2]),
-        (runs, [45, 20, 2]),
-        (cycles, [25, 14, 2]),
-        (jumble, [80, 34, 2]),
-        (mixed, [50, 24, 2]),
-    ];
-    for (part, [on_small, on_middle, on_largest]) in parts {
-        scripts.extend(many(on_small, small, Size::Small, part, random));
-        scripts.extend(many(on_middle, middle, Size::Middle, part, random));
-        scripts.extend(many(on_largest, largest, Size::Largest, part, random));
-    }
+    let mut scripts = on([small, middle, largest], TIMES, random);
     // Planning refuses these meshes, so all directions are 0.
     scripts.extend(many(25, parted, Size::Small, jumble, random));
     scripts.extend(many(25, parted, Size::Small, floods, random));
+    scripts
+}
+
+/// So many of each part on small, middle and the largest meshes.
+pub fn on(grounds: [Ground; 3], times: [Times; 5], random: &mut Random) -> Vec<Script> {
+    let parts: [Part; 5] = [floods, runs, cycles, jumble, mixed];
+    let sizes = [Size::Small, Size::Middle, Size::Largest];
+    let mut scripts = Vec::new();
+    for (part, times) in parts.into_iter().zip(times) {
+        for ((ground, size), times) in grounds.into_iter().zip(sizes).zip(times) {
+            scripts.extend(many(times, ground, size, part, random));
+        }
+    }
     scripts
 }
 

@@ -22,13 +22,7 @@ pub fn scripts(random: &mut Random) -> Vec<Script> {
     let mut scripts = Vec::new();
     for turn in 0..260 {
         let mesh = if turn % 3 == 0 { any } else { small }(random);
-        let session = session(&mesh, states_of(turn), random);
-        let called = match turn % 4 {
-            0 => before_a_cut(session, &mesh, random),
-            1 => delivered(session, &mesh, random),
-            _ => under_a_cut(session, &mesh, random),
-        };
-        scripts.push(called);
+        scripts.push(script(&mesh, turn, random));
     }
     for turn in 0..STATES.len() {
         let mesh = largest(random);
@@ -36,6 +30,16 @@ pub fn scripts(random: &mut Random) -> Vec<Script> {
         scripts.push(under_a_cut(session, &mesh, random));
     }
     scripts
+}
+
+/// Each choice of states and of calls by turns.
+pub fn script(mesh: &Mesh, turn: usize, random: &mut Random) -> Script {
+    let session = session(mesh, states_of(turn), random);
+    match turn % 4 {
+        0 => before_a_cut(session, mesh, random),
+        1 => delivered(session, mesh, random),
+        _ => under_a_cut(session, mesh, random),
+    }
 }
 
 /// The states to choose from on each wavelength: every pair by turns.

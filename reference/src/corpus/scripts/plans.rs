@@ -10,8 +10,7 @@ pub fn scripts(random: &mut Random) -> Vec<Script> {
     let mut scripts = Vec::new();
     for turn in 0..110 {
         let mesh = if turn < 80 { any } else { small }(random);
-        let directions = well_formed(&mesh, turn % 5, random);
-        scripts.push(played(&mesh, directions, random));
+        scripts.push(script(&mesh, turn, random));
     }
     let mesh = largest(random);
     let directions = random_directions(MOST_LINKS, random);
@@ -28,6 +27,12 @@ pub fn scripts(random: &mut Random) -> Vec<Script> {
         scripts.push(refused(&mesh, directions, random));
     }
     scripts
+}
+
+/// A start on well-formed directions, of each kind by turns.
+pub fn script(mesh: &Mesh, turn: usize, random: &mut Random) -> Script {
+    let directions = well_formed(mesh, turn % 5, random);
+    played(mesh, directions, random)
 }
 
 fn well_formed(mesh: &Mesh, kind: usize, random: &mut Random) -> Vec<u8> {

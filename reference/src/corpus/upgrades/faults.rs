@@ -6,18 +6,36 @@ use crate::mesh::{MOST_LINKS, MOST_NODES};
 use crate::old_session::{OldLink, OldSession};
 use crate::refusal::{Reason, Refusal};
 
-/// A change of a good old session, and the refusal that it meets.
+/// A change of a good old session, and the refusal that it meets; none where a
+/// pair is repeated, which stands.
 #[derive(Clone)]
 pub struct Fault {
-    pub refusal: Refusal,
+    pub refusal: Option<Refusal>,
     change: Rc<dyn Fn(&mut OldSession)>,
 }
 
 impl Fault {
     fn new(reason: Reason, place: usize, change: impl Fn(&mut OldSession) + 'static) -> Fault {
         Fault {
-            refusal: Refusal::new(reason, place),
+            refusal: Some(Refusal::new(reason, place)),
             change: Rc::new(change),
+        }
+    }
+
+    /// The ends of one link.
+    pub fn of_ends(reason: Reason, at: usize, (low, high): (u8, u8)) -> Fault {
+        Fault::new(reason, at, move |old| {
+            let link = &mut old.links[at];
+            *link = OldLink { low, high, ..*link };
+        })
+    }
+
+    /// The ends of the link before, which are not 8.
+    fn repeated(good: &OldSession, at: usize) -> Fault {
+        let OldLink { low, high, .. } = good.links[at - 1];
+        Fault {
+            refusal: None,
+            ..Fault::of_ends(Reason::BelowPrevious, at, (low, high))
         }
     }
 
@@ -53,8 +71,8 @@ pub fn of_numbers(good: &OldSession) -> Vec<Fault> {
     faults
 }
 
-/// 7, 6 and 8 at the first, a middle and the last link, some with another of
-/// them that comes later.
+/// 7, 6 and a pair that is repeated at the first, a middle and the last link, some
+/// with another fault that comes later.
 pub fn of_links(good: &OldSession) -> Vec<Fault> {
     let last = usize::from(good.count) - 1;
     let mut faults = Vec::new();
@@ -64,23 +82,19 @@ pub fn of_links(good: &OldSession) -> Vec<Fault> {
     faults
 }
 
-/// The first three are 7, 6 and 8; at link 0 there is no 8.
+/// The first three are 7, 6 and a pair that is repeated; at link 0 there is no
+/// such pair.
 pub fn of_link(good: &OldSession, at: usize) -> Vec<Fault> {
     let OldLink { low, high, .. } = good.links[at];
     let nodes = good.nodes;
-    let ends = |reason, (low, high): (u8, u8)| {
-        Fault::new(reason, at, move |old| {
-            let link = &mut old.links[at];
-            *link = OldLink { low, high, ..*link };
-        })
-    };
+    let ends = |reason, ends| Fault::of_ends(reason, at, ends);
     let mut faults = vec![
         ends(Reason::LowNotBelowHigh, (high, low)),
         ends(Reason::EndNotBelowNodes, (low, nodes)),
     ];
     if let Some(before) = at.checked_sub(1) {
-        let OldLink { low, high, .. } = good.links[before];
-        faults.push(ends(Reason::NotAfterPrevious, (low, high)));
+        let low = good.links[before].low;
+        faults.push(Fault::repeated(good, at));
         // 7 with 8, and 6 with 8.
         faults.push(ends(Reason::LowNotBelowHigh, (low, low)));
         if low > 0 {

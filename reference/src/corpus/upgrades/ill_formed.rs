@@ -1,9 +1,9 @@
-//! Old sessions that are refused, and calls on the zeros that they become.
+//! Old sessions that are refused, and some in which a pair is repeated; calls as
+//! on the zeros that refused ones become.
 
 use super::super::meshes::{all_filled, plain};
 use super::super::scripts::caller::Caller;
 use super::super::scripts::grounds::{dense, largest, triangle};
-use super::behind::with_calls;
 use super::faults::{self, Fault};
 use super::lists::{at_rest, mended, under_way};
 use super::old_caller::OldCaller;
@@ -14,7 +14,7 @@ use crate::random::Random;
 use crate::upgrade::Upgrade;
 
 /// Faults that stand together, the one that is met first before the others.
-type Faults = fn(&OldSession) -> Vec<Vec<Fault>>;
+pub type Faults = fn(&OldSession) -> Vec<Vec<Fault>>;
 
 pub fn upgrades(random: &mut Random) -> Vec<Upgrade> {
     let mut sessions = Vec::new();
@@ -29,13 +29,13 @@ pub fn upgrades(random: &mut Random) -> Vec<Upgrade> {
     }
     sessions.extend(without_links());
     sessions.extend(on_64_nodes(random));
-    let refused = |old| with_calls(old, some_calls, random);
-    sessions.into_iter().map(refused).collect()
+    let called = |old| with_some_calls(old, random);
+    sessions.into_iter().map(called).collect()
 }
 
 /// Each of the faults in one of the good sessions by turns; those met later are
 /// made first.
-fn by_turns(good: &[OldSession], faults: Faults) -> Vec<OldSession> {
+pub fn by_turns(good: &[OldSession], faults: Faults) -> Vec<OldSession> {
     let mut sessions = Vec::new();
     for turn in 0..faults(&good[0]).len() {
         let good = &good[turn % good.len()];
@@ -51,7 +51,7 @@ fn with_all(good: &OldSession, faults: &[Fault]) -> OldSession {
 }
 
 /// With links under way, at rest, and mended.
-fn good_sessions(mesh: &Mesh, random: &mut Random) -> [OldSession; 3] {
+pub fn good_sessions(mesh: &Mesh, random: &mut Random) -> [OldSession; 3] {
     [under_way, at_rest, mended].map(|before| {
         let mut caller = OldCaller::new(mesh, random);
         before(&mut caller);
@@ -60,7 +60,7 @@ fn good_sessions(mesh: &Mesh, random: &mut Random) -> [OldSession; 3] {
 }
 
 /// Every fault alone.
-fn single(good: &OldSession) -> Vec<Vec<Fault>> {
+pub fn single(good: &OldSession) -> Vec<Vec<Fault>> {
     let mut faults = faults::of_numbers(good);
     faults.extend(faults::of_links(good));
     faults.extend(faults::of_values(good));
@@ -71,7 +71,7 @@ fn single(good: &OldSession) -> Vec<Vec<Fault>> {
 }
 
 /// A fault of the mesh with each kind of 13; 3 with 4 and each of these with the
-/// faults of a link; 7, 6 and 8 at two links.
+/// faults of a link; 7, 6 and a pair that is repeated at two links.
 fn pairs(good: &OldSession) -> Vec<Vec<Fault>> {
     let of_mesh = of_mesh(good);
     let of_record = of_record(good);
@@ -91,7 +91,7 @@ fn pairs(good: &OldSession) -> Vec<Vec<Fault>> {
     pairs.into_iter().map(owned).collect()
 }
 
-/// 3, 4, and 7, 6 and 8 at the last link.
+/// 3, 4, and 7, 6 and a pair that is repeated at the last link.
 fn of_mesh(good: &OldSession) -> Vec<Fault> {
     let last = usize::from(good.count) - 1;
     let numbers = faults::of_numbers(good).into_iter();
@@ -136,9 +136,13 @@ fn on_64_nodes(random: &mut Random) -> Vec<OldSession> {
 }
 
 /// One or two calls of any kind.
-fn some_calls(caller: &mut Caller) {
+pub fn with_some_calls(old: OldSession, random: &mut Random) -> Upgrade {
+    let (zeros, _) = OldSession::ZERO.carry_over();
+    let mut caller = Caller::on(&zeros, &zeros.mesh, random);
     let times = caller.random.between(1, 2);
     caller.jumble(times);
+    let calls = caller.script().calls;
+    Upgrade { old, calls }
 }
 
 #[cfg(test)]
@@ -155,17 +159,24 @@ mod tests {
                 assert_eq!(good.carry_over().1, Ok(()));
                 for faults in [single(&good), pairs(&good)].concat() {
                     let (session, answer) = with_all(&good, &faults).carry_over();
-                    assert_eq!(answer, Err(faults[0].refusal));
-                    assert_eq!(session, zeros);
+                    let first = faults.iter().find_map(|fault| fault.refusal);
+                    assert_eq!(answer.err(), first);
+                    assert_eq!(session == zeros, first.is_some());
                 }
             }
         }
     }
 
     #[test]
-    fn no_session_is_carried_over() {
-        for upgrade in upgrades(&mut Random::new(1)) {
-            assert!(upgrade.old.carry_over().1.is_err());
+    fn only_sessions_with_a_repeated_pair_are_carried_over() {
+        let upgrades = upgrades(&mut Random::new(1));
+        let kept = |upgrade: &&Upgrade| upgrade.old.carry_over().1.is_ok();
+        let kept: Vec<&Upgrade> = upgrades.iter().filter(kept).collect();
+        assert_eq!(kept.len(), 4);
+        for upgrade in kept {
+            let links = &upgrade.old.links[..upgrade.old.count.into()];
+            let mut pairs = links.windows(2);
+            assert!(pairs.any(|two| (two[0].low, two[0].high) == (two[1].low, two[1].high)));
         }
     }
 }

@@ -11,10 +11,10 @@ use crate::random::Random;
 use crate::upgrade::Upgrade;
 
 /// Old calls before the carry-over.
-type Before = fn(&mut OldCaller);
+pub type Before = fn(&mut OldCaller);
 
 /// A mesh of a size.
-type Ground = fn(&mut Random) -> Mesh;
+pub type Ground = fn(&mut Random) -> Mesh;
 
 /// How many on small, middle and the largest meshes.
 type Times = [usize; 3];
@@ -49,7 +49,7 @@ pub fn upgrades(random: &mut Random) -> Vec<Upgrade> {
     upgrades
 }
 
-fn many(
+pub fn many(
     times: usize,
     ground: Ground,
     before: Before,

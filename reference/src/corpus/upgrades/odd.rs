@@ -32,7 +32,7 @@ pub fn upgrades(random: &mut Random) -> Vec<Upgrade> {
 }
 
 /// Each choice of states by turns, one time in three without a cut.
-fn upgrade(mesh: &Mesh, turn: usize, random: &mut Random) -> Upgrade {
+pub fn upgrade(mesh: &Mesh, turn: usize, random: &mut Random) -> Upgrade {
     let mut old = session(mesh, STATES[turn % STATES.len()], random);
     let third = (turn + turn / STATES.len()) % 3;
     if third > 0 && mesh.count > 0 {

@@ -28,7 +28,7 @@ pub fn upgrades(random: &mut Random) -> Vec<Upgrade> {
 }
 
 /// Lengths that tell the links of a sum, and fibre pairs.
-fn marked(mesh: &Mesh) -> Mesh {
+pub fn marked(mesh: &Mesh) -> Mesh {
     let mut mesh = with_powers_of_two(mesh);
     for link in 0..mesh.counted().len() {
         mesh.links[link].pair = 1 << (7 * link);
@@ -37,7 +37,7 @@ fn marked(mesh: &Mesh) -> Mesh {
 }
 
 /// Right after the cut, and after each delivery of its run.
-fn of_run(mesh: &Mesh, cut: u16, random: &mut Random) -> Vec<OldSession> {
+pub fn of_run(mesh: &Mesh, cut: u16, random: &mut Random) -> Vec<OldSession> {
     let mut caller = OldCaller::new(mesh, random);
     caller.cut(cut);
     let mut stages = vec![caller.session.clone()];
@@ -61,7 +61,7 @@ fn of_p7(random: &mut Random) -> Vec<OldSession> {
 }
 
 /// Questions as the session comes, after one delivery and at rest; a mend.
-fn watched(caller: &mut Caller) {
+pub fn watched(caller: &mut Caller) {
     let cut = caller.session.cut.unwrap_or(0);
     ask(caller, cut);
     caller.make_all(&[Call::Run(1), Call::Status(cut, 1), Call::Mend(cut)]);
