@@ -3,9 +3,10 @@
 use std::collections::BTreeSet;
 
 use reference::collection::{collect, Labels, NO_TREE};
+use reference::corpus::doubled::graphs::every;
 use reference::corpus::graphs::{renumbered, side_by_side, Graph};
 use reference::corpus::meshes::{partly_filled, plain};
-use reference::corpus::shapes::{self, chosen, complete};
+use reference::corpus::shapes::{self, chosen, complete, repeated};
 use reference::mesh::{Mesh, MOST_LINKS};
 use reference::random::Random;
 use reference::refusal::{Reason, Refusal};
@@ -49,7 +50,8 @@ impl Search<'_> {
     }
 }
 
-/// Random connected meshes of every number of nodes: a tree and further links.
+/// Random connected meshes of every number of nodes: a tree and further links;
+/// then the same with each link once to three times, as far as 256 links allow.
 fn meshes(random: &mut Random) -> Vec<Mesh> {
     let mut meshes = Vec::new();
     for most in [0, 1, 5, 40, 90, MOST_LINKS] {
@@ -57,8 +59,12 @@ fn meshes(random: &mut Random) -> Vec<Mesh> {
             let tree = shapes::tree(nodes, random);
             let more = random.between(most / 2, most).min(MOST_LINKS - tree.len());
             let shape = shapes::with_more(nodes, tree, more, random);
-            let (nodes, shape) = renumbered(&(nodes, shape), random);
-            meshes.push(partly_filled(nodes, &shape, random));
+            let once = renumbered(&(nodes, shape), random);
+            let more = repeated(&once.1, |_| random.between(1, 3));
+            meshes.push(partly_filled(nodes, &once.1, random));
+            if more.len() <= MOST_LINKS {
+                meshes.push(partly_filled(nodes, &more, random));
+            }
         }
     }
     meshes
@@ -100,6 +106,29 @@ fn every_mesh_with_up_to_5_nodes_and_every_root() {
     }
     // So many graphs on 2 to 5 nodes are connected.
     assert_eq!(accepted, [1, 4, 38, 728]);
+}
+
+#[test]
+fn every_number_of_links_on_each_pair_of_up_to_4_nodes_and_every_root() {
+    let mut accepted = Vec::new();
+    for (nodes, most) in [(2, 20), (3, 4), (4, 2)] {
+        let meshes = every(nodes, most);
+        let meshes = meshes.iter().map(|graph| plain(nodes, &graph.1));
+        accepted.push(meshes.filter(is_collected).count());
+    }
+    // On 3 nodes: two pairs of three with links, or all. On 4 nodes: of the 38
+    // connected graphs 16 have 3 pairs, 15 have 4, 6 have 5 and 1 has 6.
+    let on_4 = 16 * 8 + 15 * 16 + 6 * 32 + 64;
+    assert_eq!(accepted, [20, 3 * 16 + 64, on_4]);
+}
+
+#[test]
+fn the_lowest_of_256_links_between_two_nodes_is_the_tree() {
+    let mesh = plain(2, &[(0, 1); MOST_LINKS]);
+    let mut tree = NO_TREE;
+    tree[0] = true;
+    assert_eq!(collected(&mesh, 0), (vec![0, 1, 0], tree));
+    assert_eq!(collected(&mesh, 1), (vec![1, 0, 1], tree));
 }
 
 /// Whether the mesh is connected; from each root the answer must be as it says.

@@ -5,6 +5,9 @@ mod path;
 use std::collections::BTreeSet;
 
 use reference::corpus::accepted::every_small_mesh;
+use reference::corpus::doubled::graphs::every;
+use reference::corpus::doubled::grounds as doubled;
+use reference::corpus::meshes::plain;
 use reference::corpus::scripts::grounds::{dense, largest, middle, nsfnet, small};
 use reference::drill;
 use reference::mesh::{Link, Mesh};
@@ -129,12 +132,21 @@ fn deliver_all(
     assert!(session.is_at_rest());
 }
 
-/// The deliveries are 2 × P - Q and at most 2 × L - 4. Gives their number.
+/// The most deliveries of a wavelength: 2 × L - 3, and one less where no other
+/// link joins the ends of the cut one, so that the route has two links or more.
+fn bound(mesh: &Mesh, cut: u16) -> usize {
+    let ends = mesh.links[usize::from(cut)].ends();
+    let same_ends = mesh.counted().iter().filter(|link| link.ends() == ends);
+    let shortest_route = if same_ends.count() > 1 { 1 } else { 2 };
+    2 * (mesh.counted().len() - 1) - shortest_route
+}
+
+/// The deliveries are 2 × P - Q and within the bound. Gives their number.
 fn assert_count(session: &Session, wavelength: Wavelength, seen: &Seen) -> usize {
     let cut = session.cut.unwrap();
     let route = assert_one_path(session, wavelength, cut);
     assert_eq!(seen.made, 2 * seen.offered.len() - route.len());
-    assert!(seen.made <= 2 * session.mesh.counted().len() - 4);
+    assert!(seen.made <= bound(&session.mesh, cut));
     // The links that were offered are those that are not quiet at rest.
     let not_quiet = links_in(&session.floods[wavelength], |state| state != 0);
     assert!(seen.offered.iter().copied().eq(not_quiet));
@@ -142,10 +154,10 @@ fn assert_count(session: &Session, wavelength: Wavelength, seen: &Seen) -> usize
 }
 
 /// Delivers in each of the seven orders; gives how often a wavelength rested
-/// after 2 × L - 4 deliveries.
+/// after as many deliveries as the bound.
 fn assert_counts(mesh: &Mesh, cut: u16, random: &mut Random) -> usize {
     let begun = after_cut(mesh, cut);
-    let most = 2 * mesh.counted().len() - 4;
+    let most = bound(mesh, cut);
     let mut heaviest = 0;
     for order in ORDERS {
         let mut rested = 0;
@@ -289,6 +301,67 @@ fn a_wavelength_rests_after_2_p_minus_q_deliveries_and_at_most_2_l_minus_4() {
     }
     // The bound is met on some of these meshes too.
     assert!(heaviest > 100, "{heaviest}");
+}
+
+#[test]
+fn two_nodes_with_two_links_take_one_delivery_on_each_wavelength() {
+    let mesh = plain(2, &[(0, 1); 2]);
+    for cut in 0..2 {
+        for wavelength in Wavelength::BOTH {
+            assert_eq!(assert_every_order(&mesh, cut, wavelength), [1]);
+        }
+    }
+}
+
+#[test]
+fn two_nodes_with_more_links_take_as_many_as_the_bound_after_the_last_cut() {
+    let random = &mut Random::new(6);
+    for links in [3, 4, 5, 17, 256] {
+        let mesh = plain(2, &vec![(0, 1); links]);
+        // All other links lead straight from x to y: one is taken.
+        let begun = after_cut(&mesh, links as u16 - 1);
+        deliver_all(begun, Order::Any, random, |session, wavelength, seen| {
+            assert_eq!(assert_count(session, wavelength, seen), 2 * links - 3);
+        });
+        // One link alone runs against them.
+        let begun = after_cut(&mesh, 0);
+        deliver_all(begun, Order::Any, random, |session, wavelength, seen| {
+            assert_eq!(assert_count(session, wavelength, seen), 1);
+        });
+    }
+}
+
+#[test]
+fn every_order_after_every_cut_with_every_number_of_links_on_three_pairs() {
+    let mut heaviest = 0;
+    for (nodes, shape) in every(3, 2) {
+        let mesh = plain(nodes, &shape);
+        if plan(&mesh).1.is_err() {
+            continue;
+        }
+        for cut in 0..mesh.count {
+            for wavelength in Wavelength::BOTH {
+                let rested = assert_every_order(&mesh, cut, wavelength);
+                let most = 2 * mesh.counted().len() - 3;
+                heaviest += usize::from(rested.contains(&most));
+            }
+        }
+    }
+    assert!(heaviest > 0);
+}
+
+#[test]
+fn the_counts_hold_on_meshes_with_repeated_links() {
+    let random = &mut Random::new(7);
+    for turn in 0..400 {
+        let mesh = match turn % 50 {
+            0 => doubled::largest(random),
+            1..=9 => doubled::middle(random),
+            _ => doubled::small(random),
+        };
+        let cut = random.below(mesh.count.into()) as u16;
+        assert_counts(&mesh, cut, random);
+    }
 }
 
 #[test]

@@ -1,7 +1,10 @@
-//! The planner against the definition of the plan.
+//! The planner, and the plain one in two passes, against the definition of the
+//! plan.
 
 use reference::case::Case;
 use reference::corpus;
+use reference::corpus::doubled::graphs::{every, random_ones, some_times, two_nodes};
+use reference::corpus::graphs::Graph;
 use reference::corpus::meshes::{plain, random_mesh};
 use reference::corpus::shapes::{chosen, ears, scattered, with_more};
 use reference::mesh::Mesh;
@@ -10,10 +13,17 @@ use reference::plan::{plan, Plan};
 use reference::random::Random;
 use reference::two_pass_plan;
 
-/// Whether planning accepts the mesh; the definition must agree.
+/// Whether planning accepts the mesh; the definition and the other planner must
+/// agree.
 fn is_accepted(mesh: &Mesh) -> bool {
-    let (_, answer) = checked_plan(mesh).expect("the definition gives the same");
+    let (plan, answer) = checked_plan(mesh).expect("the definition gives the same");
+    assert_eq!(two_pass_plan::plan(mesh), (plan, answer));
     answer.is_ok()
+}
+
+fn count_accepted(graphs: &[Graph]) -> usize {
+    let meshes = graphs.iter().map(|(nodes, shape)| plain(*nodes, shape));
+    meshes.filter(is_accepted).count()
 }
 
 #[test]
@@ -60,9 +70,56 @@ fn every_planning_of_the_corpus() {
         for case in corpus::make(seed) {
             if let Case::Planning { mesh } = case {
                 is_accepted(&mesh);
-                assert_eq!(two_pass_plan::plan(&mesh), plan(&mesh));
             }
         }
+    }
+}
+
+#[test]
+fn two_nodes_with_up_to_256_links() {
+    for links in 0..=256 {
+        let (nodes, shape) = two_nodes(links);
+        let mesh = plain(nodes, &shape);
+        assert_eq!(is_accepted(&mesh), links >= 2);
+        // All but the last run one way.
+        let mut expected = Plan::ZERO;
+        if links >= 2 {
+            expected.directions[links - 1] = 1;
+        }
+        assert_eq!(plan(&mesh).0, expected);
+    }
+}
+
+#[test]
+fn every_number_of_links_on_each_pair_of_3_and_4_nodes() {
+    // Two of three pairs with 2 to 4 links each, or all three with 1 to 4 each.
+    let on_3 = 3 * (3 * 3) + 4 * 4 * 4;
+    assert_eq!(count_accepted(&every(3, 4)), on_3);
+    let on_4 = count_accepted(&every(4, 2));
+    assert!((300..729).contains(&on_4), "{on_4}");
+}
+
+#[test]
+fn random_meshes_with_repeated_links_and_up_to_12_links() {
+    let random = &mut Random::new(4);
+    let mut graphs = random_ones(5_000, 6, random);
+    graphs.retain(|graph| graph.1.len() <= FEW_LINKS);
+    assert!(graphs.len() > 2_500, "{}", graphs.len());
+    let accepted = count_accepted(&graphs);
+    assert!((500..graphs.len() - 500).contains(&accepted), "{accepted}");
+}
+
+#[test]
+fn random_meshes_with_repeated_links_and_more_links() {
+    let random = &mut Random::new(5);
+    let graphs = random_ones(400, 64, random);
+    let accepted = count_accepted(&graphs);
+    assert!((60..340).contains(&accepted), "{accepted}");
+    for turn in 0..100 {
+        let nodes = random.between(4, 64) as u8;
+        let whole = (nodes, ears(nodes, random));
+        let graph = some_times(&whole, 1, 2 + turn % 4, random);
+        assert_eq!(count_accepted(&[graph]), 1);
     }
 }
 

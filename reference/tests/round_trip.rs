@@ -3,7 +3,8 @@
 use reference::book::{decode, encode, record};
 use reference::case::Case;
 use reference::corpus;
-use reference::corpus::meshes::{longest, random_mesh, LONGEST_BOOK};
+use reference::corpus::doubled::graphs::random_ones;
+use reference::corpus::meshes::{longest, partly_filled, random_mesh, LONGEST_BOOK};
 use reference::mesh::Mesh;
 use reference::random::Random;
 
@@ -24,6 +25,15 @@ fn reading_a_written_book_gives_the_mesh() {
         let nodes = random.between(2, 64) as u8;
         let most = if turn % 10 == 0 { 256 } else { 30 };
         let mesh = random_mesh(nodes, random.below(most + 1), &mut random);
+        assert_eq!(decode(&written(&mesh)), (mesh, Ok(())));
+    }
+}
+
+#[test]
+fn reading_a_written_book_gives_the_mesh_where_pairs_are_repeated() {
+    let random = &mut Random::new(4);
+    for (nodes, shape) in random_ones(600, 64, random) {
+        let mesh = partly_filled(nodes, &shape, random);
         assert_eq!(decode(&written(&mesh)), (mesh, Ok(())));
     }
 }

@@ -5,6 +5,7 @@ mod path;
 
 use path::{assert_one_path, taken};
 use reference::book::decode;
+use reference::corpus::doubled::grounds as doubled;
 use reference::corpus::meshes::plain;
 use reference::corpus::scripts::examples::P6_TURNS;
 use reference::corpus::scripts::grounds::{middle, p5, small, triangle};
@@ -281,6 +282,14 @@ fn the_route_of_a_circle_of_taken_links_ends_after_as_many_links_as_there_are() 
 
 /// The wavelength has one simple path, and its status shows the path's length
 /// at rest.
+/// Small meshes, with doubled links by turns.
+fn ground(turn: usize, random: &mut Random) -> Mesh {
+    match turn % 2 {
+        0 => small(random),
+        _ => doubled::small(random),
+    }
+}
+
 fn assert_route(session: &Session, wavelength: Wavelength, cut: u16) {
     let route = assert_one_path(session, wavelength, cut);
     let length = match session.is_at_rest() {
@@ -306,8 +315,12 @@ fn length_of(session: &Session, links: &[u16]) -> RouteLength {
 #[test]
 fn every_order_of_deliveries_leads_to_one_simple_path_on_each_wavelength() {
     let random = &mut Random::new(1);
-    for turn in 0..3_000 {
-        let mesh = if turn % 4 == 0 { middle } else { small }(random);
+    for turn in 0..4_000 {
+        let mesh = match turn % 8 {
+            0 => middle(random),
+            1 => doubled::middle(random),
+            _ => ground(turn, random),
+        };
         let mut session = planned(&mesh);
         let cut = random.below(mesh.count.into()) as u16;
         assert_eq!(session.cut(cut), Ok(()));
@@ -332,8 +345,8 @@ fn every_order_of_deliveries_leads_to_one_simple_path_on_each_wavelength() {
 #[test]
 fn wavelength_1_swaps_with_wavelength_2_where_the_plan_is_turned() {
     let random = &mut Random::new(3);
-    for _ in 0..200 {
-        let mesh = small(random);
+    for turn in 0..300 {
+        let mesh = ground(turn, random);
         let mut session = planned(&mesh);
         let mut turned = session.clone();
         let directions = &mut turned.plan.directions[..mesh.count.into()];
@@ -354,8 +367,8 @@ fn wavelength_1_swaps_with_wavelength_2_where_the_plan_is_turned() {
 #[test]
 fn a_run_is_deliveries_on_the_lowest_link_under_way() {
     let random = &mut Random::new(2);
-    for _ in 0..300 {
-        let mesh = small(random);
+    for turn in 0..400 {
+        let mesh = ground(turn, random);
         let mut session = planned(&mesh);
         let cut = random.below(mesh.count.into()) as u16;
         assert_eq!(session.cut(cut), Ok(()));
@@ -380,8 +393,8 @@ fn a_run_is_deliveries_on_the_lowest_link_under_way() {
 #[test]
 fn the_turns_of_a_run_on_one_wavelength_are_that_wavelengths_own_run() {
     let random = &mut Random::new(4);
-    for _ in 0..300 {
-        let mesh = small(random);
+    for turn in 0..400 {
+        let mesh = ground(turn, random);
         let mut session = planned(&mesh);
         let cut = random.below(mesh.count.into()) as u16;
         assert_eq!(session.cut(cut), Ok(()));

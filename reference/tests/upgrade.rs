@@ -4,6 +4,7 @@
 mod path;
 
 use path::assert_one_path;
+use reference::corpus::doubled::grounds as doubled;
 use reference::corpus::meshes::{all_filled, with_ducts, with_powers_of_two};
 use reference::corpus::scripts::caller::Caller;
 use reference::corpus::scripts::grounds::{middle, p5, small, triangle};
@@ -61,9 +62,12 @@ fn taken(states: &[u8]) -> Vec<u16> {
     taken.map(|(link, _)| link).collect()
 }
 
+/// Meshes on which each pair stands once, and others.
 fn ground(turn: usize, random: &mut Random) -> Mesh {
-    match turn % 4 {
+    match turn % 8 {
         0 => middle(random),
+        1 => doubled::middle(random),
+        2..=4 => doubled::small(random),
         _ => small(random),
     }
 }
@@ -134,9 +138,12 @@ fn an_ill_formed_old_session_meets_3_4_7_6_8_13_in_this_order() {
     old.cut = Some(3);
     old.reached[3] = true;
     assert_refused(&old, Reason::IllFormed, 0);
-    // Not after link 1, (0,2); then with an end of 3; then also turned round.
+    // As link 1, (0,2), which stands; below it; then with an end of 3; then also
+    // turned round.
+    old.links[2].low = 0;
+    assert_refused(&old, Reason::IllFormed, 0);
     for (low, high, reason) in [
-        (0, 1, Reason::NotAfterPrevious),
+        (0, 1, Reason::BelowPrevious),
         (0, 3, Reason::EndNotBelowNodes),
         (3, 0, Reason::LowNotBelowHigh),
     ] {
@@ -147,9 +154,10 @@ fn an_ill_formed_old_session_meets_3_4_7_6_8_13_in_this_order() {
         };
         assert_refused(&old, reason, 2);
     }
-    // Not after link 0, (0,1).
+    // Below link 0, now (0,2).
+    old.links[0].high = 2;
     old.links[1].high = 1;
-    assert_refused(&old, Reason::NotAfterPrevious, 1);
+    assert_refused(&old, Reason::BelowPrevious, 1);
     old.links[0].high = 7;
     assert_refused(&old, Reason::EndNotBelowNodes, 0);
     old.links[0].low = 7;
