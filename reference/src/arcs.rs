@@ -31,21 +31,24 @@ impl Arcs {
         &self.leaving
     }
 
-    /// Directs the links of one span, all those between the same two nodes, and
-    /// gives the direction of the last one. The others have direction 0: as long
-    /// as a link of the span has both arcs, no node needs an arc of another. For
-    /// the last one it is 0 if every node still reaches every other without its
-    /// arc from high to low, otherwise 1. Paths along that arc can go round it
-    /// exactly if another path leads from high to low. The arc from low to high
-    /// goes only where no other link of the span has it.
-    pub fn direct(&mut self, span: &[Link]) -> u8 {
-        let (low, high) = nodes_of(&span[0]);
+    /// Takes one of the link's two arcs away and gives the direction that is
+    /// left: 0 if every node then still reaches every other, otherwise 1.
+    /// Paths along the arc from high to low can go round it exactly if another
+    /// path leads from high to low. Links with the same ends are neighbours: one
+    /// after this link still has both arcs, so that it can be 0, and those before
+    /// it are 0 and keep the arc from low to high.
+    pub fn direct(&mut self, links: &[Link], number: usize) -> u8 {
+        let (low, high) = nodes_of(&links[number]);
         self.remove(high, low);
         if self.go_round(high, low) {
             return 0;
         }
         self.add(high, low);
-        if span.len() == 1 {
+        let has_same_ends = |other| links.get(other).map(nodes_of) == Some((low, high));
+        if has_same_ends(number + 1) {
+            return 0;
+        }
+        if number == 0 || !has_same_ends(number - 1) {
             self.remove(low, high);
         }
         1

@@ -3,7 +3,7 @@
 use std::ops::Range;
 
 use crate::arcs::Arcs;
-use crate::mesh::{Link, Mesh, MOST_LINKS};
+use crate::mesh::{Mesh, MOST_LINKS};
 use crate::refusal::{Answer, Reason, Refusal};
 use crate::tree::Tree;
 
@@ -63,14 +63,9 @@ fn span_of(mesh: &Mesh, (low, high): (u8, u8)) -> Range<usize> {
 /// no remaining link's removal parts the mesh (Boesch and Tindell, 1980).
 fn first_admissible(mesh: &Mesh, mut arcs: Arcs) -> Plan {
     let mut plan = Plan::ZERO;
-    let mut end = 0;
-    for span in mesh.counted().chunk_by(have_same_ends) {
-        end += span.len();
-        plan.directions[end - 1] = arcs.direct(span);
+    let links = mesh.counted();
+    for (number, direction) in plan.directions[..links.len()].iter_mut().enumerate() {
+        *direction = arcs.direct(links, number);
     }
     plan
-}
-
-fn have_same_ends(first: &Link, second: &Link) -> bool {
-    (first.low, first.high) == (second.low, second.high)
 }
