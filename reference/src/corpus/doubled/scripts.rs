@@ -65,9 +65,8 @@ fn ill_formed(random: &mut Random) -> Vec<Script> {
 /// A cut of the last link, and one delivery.
 fn under_way(mesh: &Mesh) -> Session {
     let (mut session, _) = start(mesh, &plan(mesh).0);
-    let cut = session.cut(mesh.count - 1);
-    let run = session.run(1).map(|_| ());
-    debug_assert_eq!((cut, run), (Ok(()), Ok(())));
+    session.cut(mesh.count - 1).expect("no cut stands");
+    session.run(1).expect("a cut stands");
     session
 }
 

@@ -83,7 +83,7 @@ fn in_any_order(mesh: &Mesh, cut: u16, random: &mut Random) -> Script {
 #[cfg(test)]
 mod tests {
     use super::*;
-    use crate::session::{Delivery, RouteLength};
+    use crate::session::{Delivery, RouteLength, Wavelength};
 
     /// How many deliveries a script makes, by calls and by runs.
     fn made(script: &Script) -> usize {
@@ -124,7 +124,7 @@ mod tests {
             let (mut session, _) = Origin::OwnPlan.session(&mesh);
             let other = 1 - cut;
             assert_eq!(session.cut(cut), Ok(()));
-            let (_, y) = session.primary_arc(crate::session::Wavelength::One, cut);
+            let (_, y) = session.primary_arc(Wavelength::One, cut);
             assert_eq!(session.deliver(other, 1), Ok(Delivery::Taken(y)));
             assert_eq!(session.deliver(other, 2), Ok(Delivery::Taken(1 - y)));
             for wavelength in [1, 2] {

@@ -2,17 +2,19 @@
 
 use super::super::meshes::all_filled;
 use super::super::upgrades::behind::{self, with_calls};
-use super::super::upgrades::faults::Fault;
+use super::super::upgrades::faults::{self, Fault};
 use super::super::upgrades::ill_formed::{by_turns, good_sessions, single, with_some_calls};
 use super::super::upgrades::lists::{at_rest, cut_again, jumble, many, mended, under_way, Before};
 use super::super::upgrades::{odd, stages};
 use super::graphs::{each, two_nodes};
 use super::grounds::{any, bare, largest, measured, middle, small};
 use crate::case::Case;
-use crate::mesh::Mesh;
+use crate::mesh::{Mesh, MOST_LINKS};
 use crate::old_session::OldSession;
+use crate::plan::Plan;
 use crate::random::Random;
 use crate::refusal::Reason;
+use crate::script::Call;
 use crate::upgrade::Upgrade;
 
 /// Old calls, and calls on what the session becomes.
@@ -36,6 +38,7 @@ pub fn cases(random: &mut Random) -> Vec<Case> {
     upgrades.extend((0..14).map(|turn| odd::upgrade(&small(random), turn, random)));
     upgrades.extend(of_256_links(random));
     upgrades.extend(refused(random));
+    upgrades.extend(falling_in_256());
     let case = |upgrade| Case::Upgrade(Box::new(upgrade));
     upgrades.into_iter().map(case).collect()
 }
@@ -88,15 +91,27 @@ fn falling(good: &OldSession) -> Vec<Vec<Fault>> {
     let places = 1..usize::from(good.count);
     let fault = |at| Fault::of_ends(Reason::BelowPrevious, at, (0, 1));
     let mut faults: Vec<Vec<Fault>> = places.map(|at| vec![fault(at)]).collect();
-    faults.push(vec![fault(3), super::super::upgrades::faults::state(0, 5)]);
+    faults.push(vec![fault(3), faults::state(0, 5)]);
     faults.push(vec![fault(2), fault(4)]);
     faults
+}
+
+/// 8 at a middle and at the last of 256 links between the same nodes.
+fn falling_in_256() -> [Upgrade; 2] {
+    let equal = bare(&(9, vec![(3, 6); MOST_LINKS]));
+    let good = OldSession::fresh(&equal, &Plan::ZERO);
+    [128, 255].map(|at| {
+        let fault = Fault::of_ends(Reason::BelowPrevious, at, (3, 5));
+        Upgrade {
+            old: fault.applied(&good),
+            calls: vec![Call::Status(at as u16, 1), Call::Run(1)],
+        }
+    })
 }
 
 #[cfg(test)]
 mod tests {
     use super::*;
-    use crate::case::Case;
 
     fn answers(upgrades: &[Upgrade]) -> Vec<Option<u8>> {
         let answer = |one: &Upgrade| one.old.carry_over().1.err().map(|one| one.number());
@@ -111,6 +126,7 @@ mod tests {
         }
         let below = answers.iter().filter(|one| **one == Some(8)).count();
         assert!(below >= 7, "{below}");
+        assert_eq!(self::answers(&falling_in_256()), [Some(8); 2]);
     }
 
     #[test]
