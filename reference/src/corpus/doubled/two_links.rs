@@ -4,8 +4,10 @@ use super::super::meshes::{plain, with_lengths};
 use super::super::scripts::caller::Caller;
 use super::graphs::two_nodes;
 use crate::mesh::Mesh;
+use crate::plan::Plan;
 use crate::random::Random;
 use crate::script::{Call, Origin, Script};
+use crate::session::{start, Wavelength, OFFERED, REFUSED};
 
 /// The lengths of the links: a sum tells them; then one is not measured.
 const LENGTHS: [[u16; 2]; 4] = [[1, 2], [0, 2], [1, 0], [0, 0]];
@@ -31,6 +33,7 @@ pub fn scripts(random: &mut Random) -> Vec<Script> {
     let most = with_lengths(&plain(2, &two_nodes(256).1), |link| link as u16 + 1);
     scripts.extend([0, 100, 254, 255].map(|cut| run(&most, cut, random)));
     scripts.push(in_any_order(&most, 255, random));
+    scripts.extend((0..48).map(|turn| from_any_state(turn, random)));
     scripts
 }
 
@@ -80,10 +83,36 @@ fn in_any_order(mesh: &Mesh, cut: u16, random: &mut Random) -> Script {
     caller.script()
 }
 
+/// On two links each way, a session that no list of calls produces: a cut, one
+/// other link offered or refused, and any reached nodes, the same on both
+/// wavelengths. Every choice of these has its turn, of 48.
+fn from_any_state(turn: usize, random: &mut Random) -> Script {
+    let mesh = with_lengths(&plain(2, &two_nodes(4).1), |link| 1 << link);
+    let mut plan = Plan::ZERO;
+    plan.directions[2..4].fill(1);
+    let (mut session, _) = start(&mesh, &plan);
+    let (cut, step) = ([0, 2][turn % 2], 1 + turn / 2 % 3);
+    let link = (usize::from(cut) + step) % 4;
+    session.cut = Some(cut);
+    for wavelength in Wavelength::BOTH {
+        let flood = &mut session.floods[wavelength];
+        flood.states[link] = [OFFERED, REFUSED][turn / 6 % 2];
+        flood.reached[0] = turn / 12 % 2 == 1;
+        flood.reached[1] = turn / 24 == 1;
+    }
+    let mut caller = Caller::on(&session, &mesh, random);
+    caller.make_all(&[1, 2].map(|wavelength| Call::Deliver(link as u16, wavelength)));
+    caller.both_statuses(cut);
+    caller.make(Call::Run(u32::MAX));
+    caller.both_statuses(cut);
+    caller.both_routes();
+    caller.script()
+}
+
 #[cfg(test)]
 mod tests {
     use super::*;
-    use crate::session::{Delivery, RouteLength, Wavelength};
+    use crate::session::{Delivery, RouteLength};
 
     /// How many deliveries a script makes, by calls and by runs.
     fn made(script: &Script) -> usize {
@@ -131,6 +160,17 @@ mod tests {
                 let length = session.status(cut, wavelength).unwrap().route;
                 assert_eq!(length, RouteLength::Metres(metres));
             }
+        }
+    }
+
+    #[test]
+    fn each_session_from_any_state_is_well_formed_and_another_one() {
+        let random = &mut Random::new(1);
+        let begun = |turn| from_any_state(turn, random).begin().0;
+        let sessions: Vec<_> = (0..48).map(begun).collect();
+        for (turn, session) in sessions.iter().enumerate() {
+            assert_eq!(session.check(), Ok(()));
+            assert!(!sessions[..turn].contains(session));
         }
     }
 
