@@ -36,10 +36,12 @@ function add_cut(cut, x, y, run, route,    offered, most) {
     if (most == highest) with_highest = with_highest " " cut
 }
 
-$1 == "mesh" { bound = 2 * $3 - 4 }
-$1 == "link" { add_arc($2, $3, $4, $5) }
+$1 == "mesh" { links = $3 }
+$1 == "link" { doubled += joined[$3, $4]++; add_arc($2, $3, $4, $5) }
 $1 == "cut" { add_cut($2, $3, $4, $5, NF - 6) }
 END {
+    # a route has one link where another link joins the ends of the cut one; where no two links have the same ends every route has two or more
+    bound = 2 * links - (doubled ? 3 : 4)
     for (i = 1; i <= cuts; i++) print line[i] (deliveries[i] == heaviest ? " heaviest" : "")
     print "most " highest " cuts" with_highest
     print "bound " bound (highest == bound ? " reached" : " not reached")
