@@ -1,7 +1,6 @@
 # Turns site comments, a table's other lines and the lines of bus into a drawing, after draw.awk.
-BEGIN { links = 0 }
 $1 == "nodes" { nodes = $2 }
-$1 ~ /^[0-9]+$/ { low[links] = $1; high[links++] = $2 }
+$1 ~ /^[0-9]+$/ { add_link($1, $2) }
 $1 == "collect" { root = $2; entries = $4 }
 # which node is met first, which second and so on; at most 40 entries of the route in a line of the title
 $1 == "route" {
@@ -15,7 +14,7 @@ END {
     begin_drawing("(dashed: not in the tree)\\ncollection route from node " root ", " entries " entries:" \
         " its tree (blue, outward direction), and the order in which it meets the nodes" route)
     for (node = 0; node < nodes; node++) print "  " node " [" node_style(node, node == root ? "root" : "", ordinal(met[node])) "]"
-    for (link = 0; link < links; link++) print "  " arc(link) " [" link_label(link) link_style(link) "]"
+    draw_links()
     print "}"
 }
 function ordinal(n,    last) {
@@ -23,8 +22,8 @@ function ordinal(n,    last) {
     return n (last == 1 ? "st" : last == 2 ? "nd" : last == 3 ? "rd" : "th")
 }
 # a link of the tree in the direction in which the walk crosses it first
-function arc(link) {
-    return link in in_tree && met[high[link]] < met[low[link]] ? high[link] " -> " low[link] : low[link] " -> " high[link]
+function leads_up(link) {
+    return !(link in in_tree && met[high[link]] < met[low[link]])
 }
 function link_style(link) {
     return link in in_tree ? " color=\"#0b5ed7\" fontcolor=\"#0b5ed7\" penwidth=3" : " style=dashed dir=none"
