@@ -42,7 +42,7 @@ function draw_links(    first, last, link) {
 # The number of a link that has others beside it stands on its curve before the high end, where no other number is.
 function draw_link(link) {
     if (beside[low[link], high[link]] > 1)
-        print "  " low[link] " -> " high[link] " [head" link_label(link) " labelangle=0 labeldistance=4" link_style(link) (leads_up(link) ? "" : " dir=back") "]"
+        print "  " low[link] " -> " high[link] " [head" link_label(link) " labelangle=0 labeldistance=3" link_style(link) (leads_up(link) ? "" : " dir=back") "]"
     else
         print "  " (leads_up(link) ? low[link] " -> " high[link] : high[link] " -> " low[link]) " [" link_label(link) link_style(link) "]"
 }
