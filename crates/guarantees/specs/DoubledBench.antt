@@ -7,12 +7,10 @@ use mathlib.Core.List.{List, [], _∷_}
 use lib.ListN.{length, replicate}
 use Rattle.mesh.specs.declared.Link.{Link}
 use Rattle.mesh.specs.declared.Mesh.{Mesh}
-use Rattle.mesh.specs.declared.Answer.{Answer}
 use Rattle.mesh.specs.declared.Answer.the-variants.{Accepted, Refused}
 use Rattle.mesh.specs.Mesh.{meshAnswer}
 use Rattle.codec.specs.Book.{decoded}
 use Rattle.planner.specs.Plan.{planned}
-use Rattle.collection.specs.declared.Collected.{Collected}
 use Rattle.collection.specs.Collection.{collected, outputAfter}
 use Rattle.guarantees.specs.Bench.{ends, reads, refuses, plans, unplanned}
 

@@ -14,7 +14,6 @@ use Rattle.mesh.specs.Mesh.{meshAnswer}
 use Rattle.mesh.specs.WellFormed.{link}
 use Rattle.nets.specs.Nets.{netOf}
 use Rattle.planner.specs.Plan.{planned}
-use Rattle.planner.specs.Meaning.{LinkParts}
 use Rattle.planner.specs.Laws.Meaning.{plan-numbers}
 
 module _ (G : Net) {i k : ℕ} (i< : i < G .links) (other : i ≢ k) (low : G .low i ≡ G .low k) (high : G .high i ≡ G .high k) where

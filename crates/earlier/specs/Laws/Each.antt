@@ -1,6 +1,6 @@
 -- A mesh that passes the checks by one order test passes them by another exactly where that one accepts each link after the link before it. Assumes nothing.
-use Prim.Native.Nat.{ℕ, zero, suc, _+_, _<_, _≤_}
-use mathlib.Core.Path.{_≡_, refl, _∙_, sym}
+use Prim.Native.Nat.{ℕ, zero, suc, _+_, _<_}
+use mathlib.Core.Path.{_≡_, refl}
 use mathlib.Core.Bool.{true, _&&_}
 use mathlib.Core.List.{List, [], _∷_}
 use native.Mathlib.Omega.{arith}
@@ -37,6 +37,7 @@ taken-is m (suc i) h = (getD-take (m .count) (m .links) (suc i) zeroLink h, getD
 -- ---- links in turn
 
 module _ (o : Order) (n : ℕ) where
+  -- an accepted link passes each of the tests
   pub link-parts : (p l : Link) (place : ℕ) → linkAnswerBy o n p l place ≡ Accepted
       → (ltb (l .low) (l .high) ≡ true) × ((ltb (l .low) n && ltb (l .high) n) ≡ true) × Passes o p l
   link-parts p l place e =
@@ -63,7 +64,7 @@ module _ (o o′ : Order) (n : ℕ) where
 
 module _ (o : Order) (m : Mesh) where
   -- what the checks say of its parts
-  mesh-parts : meshAnswerBy o m ≡ Accepted
+  pub mesh-parts : meshAnswerBy o m ≡ Accepted
       → (nodesFit (m .nodes) ≡ true) × (countFits (m .count) ≡ true) × (linksAnswerBy o (m .nodes) zeroLink 0 (taken m) ≡ Accepted) × (restZero m ≡ true)
   unfolding meshAnswerBy
   mesh-parts e =

@@ -1,6 +1,6 @@
 -- By the order test of now the mesh checks, reading and planning by an order test are the library's. Assumes nothing.
 use Prim.Native.Nat.{ℕ, zero, suc, _+_}
-use mathlib.Core.Path.{_≡_, refl, ap}
+use mathlib.Core.Path.{_≡_, refl}
 use mathlib.Core.List.{List, [], _∷_}
 use lib.ListN.{length, getD, take, drop}
 use Rattle.scan.specs.Bytes.{number}

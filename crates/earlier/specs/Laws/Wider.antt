@@ -1,8 +1,8 @@
 -- What an order test accepts a wider one accepts too: meshes, books, and so plans. Assumes nothing.
 use Prim.Native.Nat.{ℕ, zero, suc, _+_}
-use mathlib.Core.Path.{_≡_, refl, sym, ap, _∙_}
-use mathlib.Core.Bool.{Bool, true, not, _&&_}
-use mathlib.Core.List.{List, [], _∷_}
+use mathlib.Core.Path.{_≡_, refl, sym, _∙_}
+use mathlib.Core.Bool.{true, not}
+use mathlib.Core.List.{List}
 use lib.ListN.{length, getD, take, drop}
 use lib.Dec.{ltb, leb}
 use Rattle.scan.specs.Bytes.{number}
@@ -10,14 +10,13 @@ use Rattle.mesh.specs.declared.Link.{Link}
 use Rattle.mesh.specs.declared.Mesh.{Mesh}
 use Rattle.mesh.specs.declared.Answer.{Answer}
 use Rattle.mesh.specs.declared.Answer.the-variants.{Accepted, Refused}
-use Rattle.mesh.specs.Mesh.{zeroLink, nodesFit, countFits, restZero}
+use Rattle.mesh.specs.Mesh.{zeroLink}
 use Rattle.mesh.specs.Laws.Answer.{must-accepted, andThen-accepted}
 use Rattle.fields.specs.Field.{needless}
 use Rattle.fields.specs.Record.{asLink, fieldsOf, fieldsAt, recordLength, reserved}
-use Rattle.codec.specs.declared.Decoded.{Decoded}
 use Rattle.codec.specs.Book.{headerAnswer, meshOf, decodedAs}
-use Rattle.earlier.specs.Laws.Each.{link-parts, links-each, each-links}
-use Rattle.earlier.specs.Ordered.{Order, linkAnswerBy, linksAnswerBy, meshAnswerBy, recordAnswerBy, recordsAnswerBy, bookAnswerBy, decodedBy, planAnswerBy, plannedBy}
+use Rattle.earlier.specs.Laws.Each.{link-parts, links-each, each-links, mesh-parts}
+use Rattle.earlier.specs.Ordered.{Order, linksAnswerBy, meshAnswerBy, recordAnswerBy, recordsAnswerBy, bookAnswerBy, decodedBy, planAnswerBy, plannedBy}
 
 module _ (o o′ : Order) (wider : (plow phigh low high : ℕ) → o plow phigh low high ≡ true → o′ plow phigh low high ≡ true) where
   -- ---- the mesh checks
@@ -28,10 +27,8 @@ module _ (o o′ : Order) (wider : (plow phigh low high : ℕ) → o plow phigh 
   pub mesh-wider : (m : Mesh) → meshAnswerBy o m ≡ Accepted → meshAnswerBy o′ m ≡ Accepted
   unfolding meshAnswerBy
   mesh-wider m e =
-      let (nodes, e1) = must-accepted (nodesFit (m .nodes)) _ _ _ e in
-      let (count, e2) = must-accepted (countFits (m .count)) _ _ _ e1 in
-      let (links, e3) = andThen-accepted (linksAnswerBy o (m .nodes) zeroLink 0 (take (m .count) (m .links))) _ e2 in
-      rw (nodes, count, links-wider (m .nodes) zeroLink 0 (take (m .count) (m .links)) links) e3
+      let (nodes, count, links, zeros) = mesh-parts o m e in
+      rw (nodes, count, links-wider (m .nodes) zeroLink 0 (take (m .count) (m .links)) links, zeros)
 
   -- ---- reading
 
