@@ -1,9 +1,9 @@
 -- Meshes with links between the same nodes: their books, plans and collection routes, and books with a pair below the previous one (02, request 7). Definitions
 -- only; the theorem is `doubled-bench` of Main.
-use Prim.Native.Nat.{ℕ}
+use Prim.Native.Nat.{ℕ, _-_}
 use mathlib.Core.Path.{_≡_}
 use mathlib.Core.Bool.{true, false}
-use mathlib.Core.List.{List, [], _∷_}
+use mathlib.Core.List.{List, [], _∷_, _++_, map}
 use lib.ListN.{length, replicate}
 use Rattle.mesh.specs.declared.Link.{Link}
 use Rattle.mesh.specs.declared.Mesh.{Mesh}
@@ -12,15 +12,30 @@ use Rattle.mesh.specs.Mesh.{meshAnswer}
 use Rattle.codec.specs.Book.{decoded}
 use Rattle.planner.specs.Plan.{planned}
 use Rattle.collection.specs.Collection.{collected, outputAfter}
+use Rattle.legacy.specs.declared.OldLink.{OldLink}
+use Rattle.legacy.specs.declared.OldSession.{OldSession}
+use Rattle.legacy.specs.Record.{zeroLink}
+use Rattle.legacy.specs.Calls.{freshOn}
+use Rattle.upgrade.specs.Carried.{carried}
 use Rattle.guarantees.specs.Bench.{ends, reads, refuses, plans, unplanned}
 
 -- a link with these ends and this length, with no fibre pair
 abbrev measured : ℕ → ℕ → ℕ → Link
 measured low high metres = record { low = low; high = high; length = metres; pair = 0 }
 
+abbrev oldEnds : ℕ → ℕ → OldLink
+oldEnds low high = record { low = low; high = high; length = 0; pair = 0 }
+
 -- a mesh of n nodes with these links, none of which has a duct
 abbrev pub on : ℕ → List Link → Mesh
 on n ls = reads n ls .mesh
+
+-- an old session on three nodes with links between these ends
+abbrev pub oldOn : List (ℕ × ℕ) → OldSession
+oldOn pairs =
+    freshOn
+    (record { nodes = 3; count = length pairs; links = map (λ (p : ℕ × ℕ). oldEnds (p .0) (p .1)) pairs ++ replicate (256 - length pairs) zeroLink })
+    (record { directions = replicate 256 0 })
 
 -- a triangle, one span of which has two links
 abbrev pub triangle : Mesh
@@ -40,6 +55,9 @@ pub record Holds : Type 0 where
   -- the same of meshes, also past a doubled span
   pub checked : meshAnswer triangle ≡ Accepted
   pub below : meshAnswer (on 3 (ends 0 2 ∷ ends 0 2 ∷ ends 0 1 ∷ [])) ≡ Refused 8 2
+  -- and of sessions from before wavelength 2 that are carried over
+  pub carried-over : carried (oldOn ((0, 1) ∷ (0, 1) ∷ (0, 2) ∷ (1, 2) ∷ [])) .answer ≡ Accepted
+  pub old-below : carried (oldOn ((0, 2) ∷ (0, 2) ∷ (0, 1) ∷ [])) .answer ≡ Refused 8 2
   -- two links with the same ends and different lengths: in the other order it is another mesh, which has another book
   pub one-order : decoded (1 ∷ 2 ∷ 2 ∷ 0 ∷ 4 ∷ 7 ∷ 0 ∷ 4 ∷ 9 ∷ 0 ∷ []) ≡ reads 2 (measured 0 1 7 ∷ measured 0 1 9 ∷ [])
   pub other-order : decoded (1 ∷ 2 ∷ 2 ∷ 0 ∷ 4 ∷ 9 ∷ 0 ∷ 4 ∷ 7 ∷ 0 ∷ []) ≡ reads 2 (measured 0 1 9 ∷ measured 0 1 7 ∷ [])

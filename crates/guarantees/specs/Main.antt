@@ -109,7 +109,7 @@ use Rattle.drilled.specs.Laws.Plan.{drill-planned}
 use Rattle.drilled.specs.Laws.Calls.{outer-only, drill-calls, two-links}
 use Rattle.earlier.specs.Ordered.{strictlyFollows, meshAnswerBy, decodedBy, plannedBy}
 use Rattle.earlier.specs.Laws.Now.{mesh-now, decoded-now, planned-now}
-use Rattle.earlier.specs.Laws.Earlier.{mesh-still, mesh-exactly, decoded-still, planned-still}
+use Rattle.earlier.specs.Laws.Earlier.{mesh-still, mesh-exactly, decoded-still, decoded-exactly, planned-still, book-plan}
 use Rattle.doubled.specs.Laws.Bridge.{joined-without, never-parts}
 use Rattle.doubled.specs.Laws.TwoPlan.{two-planned}
 use Rattle.doubled.specs.Laws.TwoCalls.{two-calls, two-route}
@@ -310,7 +310,7 @@ pub old-record-refuses : (s : OldSession) → oldRecord.InRange (s .mesh) → (n
     → oldTest.recordAnswer s ≡ Refused number place → oldRecord.Refusal s number place
 old-record-refuses s r number place = oldForming.refused-record s r
 
--- every call from before wavelength 2 was refused just so
+-- every call from before wavelength 2 was refused just so, but that links with the same ends met 8 (02, request 7)
 pub old-call-refuses : (s : OldSession) (number place : ℕ) → oldTest.recordAnswer s ≡ Refused number place
     → (c : oldCalls.Call) → oldCalls.answer c s ≡ Refused number place
 old-call-refuses s number place = call-refused s
@@ -568,6 +568,15 @@ ordered-now = (mesh-now, decoded-now, planned-now)
 pub earlier-books : (s : List ℕ) → decodedBy strictlyFollows s .answer ≡ Accepted → decoded s ≡ decodedBy strictlyFollows s
 earlier-books = decoded-still
 
+-- and planned as it was; such a book is exactly one that is accepted now and whose mesh passes the checks by that test
+pub earlier-books-planned : (s : List ℕ) → decodedBy strictlyFollows s .answer ≡ Accepted
+    → planned (decoded s .mesh) ≡ plannedBy strictlyFollows (decodedBy strictlyFollows s .mesh)
+earlier-books-planned = book-plan
+
+pub earlier-books-exactly : (s : List ℕ)
+    → (decodedBy strictlyFollows s .answer ≡ Accepted) ↔ ((decoded s .answer ≡ Accepted) × (meshAnswerBy strictlyFollows (decoded s .mesh) ≡ Accepted))
+earlier-books-exactly = decoded-exactly
+
 -- a mesh that passed the checks by that test passes them, and planning gives it the plan, or the refusal, that it gave
 pub earlier-plans : (m : Mesh) → meshAnswerBy strictlyFollows m ≡ Accepted → (meshAnswer m ≡ Accepted) × (planned m ≡ plannedBy strictlyFollows m)
 earlier-plans m e = (mesh-still m e, planned-still m e)
@@ -576,7 +585,7 @@ earlier-plans m e = (mesh-still m e, planned-still m e)
 pub earlier-meshes : (m : Mesh) → InRange m → (meshAnswerBy strictlyFollows m ≡ Accepted) ↔ ((meshAnswer m ≡ Accepted) × ((k : ℕ) → k < m .count → OnlyLink m k))
 earlier-meshes m r = mesh-exactly m (r .entries)
 
--- where links i and k have the same ends, the removal of k parts no mesh, and planning does not refuse it with 21 at k
+-- where links i and k have the same ends, the removal of k does not part m, and planning does not refuse m with 21 at k
 module _ (m : Mesh) (i k : ℕ) (inside : i < m .count) (other : i ≢ k) (low : link m i .low ≡ link m k .low) (high : link m i .high ≡ link m k .high) where
   pub doubled-joined : Strong (netOf m) bothWays → Strong (netOf m) (without k bothWays)
   doubled-joined = joined-without (netOf m) inside other low high

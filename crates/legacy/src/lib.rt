@@ -70,7 +70,7 @@ fn is_ill_formed(s: OldSession) -> bool
         | has_stray(mesh.nodes, &flood.reached, &flood.reached)
 }
 
-// The test of an old session's record: the mesh checks, then 13, each with the place that it had before.
+// The test of an old session's record: the mesh checks, then 13, each with the place that it had before; links may have the same ends now.
 pub fn check(s: OldSession) -> Answer
     ensures answer { λ r. ⌜ r ≡ recordAnswer s ⌝ }
     ensures ranges { λ _. ⌜ InRange (s .mesh) ⌝ }

@@ -55,7 +55,8 @@ kept s = record {
   second = secondOf (meshOf (s .mesh)) (planOf (s .plan)) (cutOf (s .cut));
 }
 
--- an ill-formed old session meets the refusals and order that it met before, and gives what a refused start gives
+-- an ill-formed old session meets the refusals and order that it met before, but that links may have the same ends (02, request 7), and gives what a refused start
+-- gives
 unfoldable pub carried : OldSession → Change
 carried s = change (recordAnswer s) zeroSession (kept s)
 

@@ -83,7 +83,7 @@ fn cut_again(s: Session, cut: OldCut) -> Session
     }
 }
 
-// 02's carry-over of an old session: its record is tested as it was before; all zeros with no cut on a refusal. Mesh, plan and cut are kept. A start on
+// 02's carry-over of an old session: its record is tested as it was before, but that links may have the same ends; all zeros with no cut on a refusal. Mesh, plan and cut are kept. A start on
 // them, with the cut made anew where one stands, gives wavelength 2; wavelength 1 keeps its states and reached nodes.
 pub fn carry_over(old: OldSession) -> Change
     ensures { λ r. ⌜ r ≡ carried old ⌝ }

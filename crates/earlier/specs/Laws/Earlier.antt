@@ -1,7 +1,7 @@
 -- The order test from before and that of now: what the first accepts the second does, and a mesh that the second accepts the first does exactly where no two
 -- links have the same ends. Assumes 256 entries in the mesh's list of links for the latter.
 use Prim.Native.Nat.{ℕ, zero, suc, _<_}
-use mathlib.Core.Path.{_≡_, sym, _∙_}
+use mathlib.Core.Path.{_≡_, sym, _∙_, ap}
 use mathlib.Core.Logic.{_⊎_, inl, inr, ⊎-elim, ⊎-map, _↔_}
 use mathlib.Core.Bool.{true}
 use mathlib.Core.List.{List}
@@ -20,11 +20,15 @@ use Rattle.mesh.specs.Laws.Checked.{well-formed}
 use Rattle.nets.specs.Nets.{netOf}
 use Rattle.nets.specs.Parallel.{Parallel}
 use Rattle.nets.specs.Laws.Ordered.{well-formed-ordered}
-use Rattle.codec.specs.Book.{decoded}
+use Rattle.codec.specs.Book.{meshOf, decoded}
+use Rattle.codec.specs.declared.Decoded.{Decoded}
+use Rattle.codec.specs.Laws.Accepted.{decoded-mesh}
+use Rattle.codec.specs.Laws.Read.{decoded-accepted}
 use Rattle.planner.specs.Plan.{planned}
 use Rattle.earlier.specs.Ordered.{strictlyFollows, meshAnswerBy, decodedBy, plannedBy}
 use Rattle.earlier.specs.Laws.Now.{mesh-now, decoded-now, planned-now}
-use Rattle.earlier.specs.Laws.Each.{mesh-each, each-mesh}
+use Rattle.earlier.specs.Laws.Each.{mesh-parts, mesh-each, each-mesh}
+use Rattle.earlier.specs.Laws.Books.{book-links, links-book, decoded-by}
 use Rattle.earlier.specs.Laws.Wider.{mesh-wider, decoded-wider, planned-wider}
 
 module _ (plow phigh low high : ℕ) where
@@ -83,3 +87,22 @@ decoded-still s e = sym (decoded-now s) ∙ decoded-wider strictlyFollows follow
 
 pub planned-still : (m : Mesh) → meshAnswerBy strictlyFollows m ≡ Accepted → planned m ≡ plannedBy strictlyFollows m
 planned-still m e = sym (planned-now m) ∙ planned-wider strictlyFollows follows follows-still m e
+
+-- a book was accepted exactly where it is accepted now and its mesh passed the checks
+pub decoded-exactly : (s : List ℕ) → (decodedBy strictlyFollows s .answer ≡ Accepted)
+    ↔ ((decoded s .answer ≡ Accepted) × (meshAnswerBy strictlyFollows (decoded s .mesh) ≡ Accepted))
+unfolding meshAnswerBy
+decoded-exactly s = (
+  λ e. let ok : decoded s .answer ≡ Accepted = ap (λ (d : Decoded). d .answer) (decoded-still s e) ∙ e in
+      let is = decoded-mesh s ok .1 in
+      let (nodes, count, links, zeros) = mesh-parts follows (meshOf s) (mesh-now (meshOf s) ∙ rw is at (decoded-accepted s ok)) in
+      (ok, rw is (rw (nodes, count, book-links s strictlyFollows (sym (decoded-by strictlyFollows s) ∙ e), zeros))),
+  λ (ok, f). let is = decoded-mesh s ok .1 in
+      let (_, _, links, _) = mesh-parts strictlyFollows (meshOf s) (rw is at f) in
+      decoded-by strictlyFollows s ∙ links-book s follows (sym (decoded-by follows s) ∙ ap (λ (d : Decoded). d .answer) (decoded-now s) ∙ ok) strictlyFollows links,
+)
+
+-- so a book that was accepted has the plan, or the refusal, that it had
+pub book-plan : (s : List ℕ) → decodedBy strictlyFollows s .answer ≡ Accepted
+    → planned (decoded s .mesh) ≡ plannedBy strictlyFollows (decodedBy strictlyFollows s .mesh)
+book-plan s e = rw (← decoded-still s e) (planned-still (decoded s .mesh) (decoded-exactly s .0 e .1))

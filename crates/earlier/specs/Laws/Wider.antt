@@ -1,22 +1,16 @@
 -- What an order test accepts a wider one accepts too: meshes, books, and so plans. Assumes nothing.
-use Prim.Native.Nat.{ℕ, zero, suc, _+_}
+use Prim.Native.Nat.{ℕ}
 use mathlib.Core.Path.{_≡_, refl, sym, _∙_}
-use mathlib.Core.Bool.{true, not}
+use mathlib.Core.Bool.{true}
 use mathlib.Core.List.{List}
-use lib.ListN.{length, getD, take, drop}
-use lib.Dec.{ltb, leb}
-use Rattle.scan.specs.Bytes.{number}
+use lib.ListN.{take}
 use Rattle.mesh.specs.declared.Link.{Link}
 use Rattle.mesh.specs.declared.Mesh.{Mesh}
-use Rattle.mesh.specs.declared.Answer.{Answer}
-use Rattle.mesh.specs.declared.Answer.the-variants.{Accepted, Refused}
+use Rattle.mesh.specs.declared.Answer.the-variants.{Accepted}
 use Rattle.mesh.specs.Mesh.{zeroLink}
-use Rattle.mesh.specs.Laws.Answer.{must-accepted, andThen-accepted}
-use Rattle.fields.specs.Field.{needless}
-use Rattle.fields.specs.Record.{asLink, fieldsOf, fieldsAt, recordLength, reserved}
-use Rattle.codec.specs.Book.{headerAnswer, meshOf, decodedAs}
-use Rattle.earlier.specs.Laws.Each.{link-parts, links-each, each-links, mesh-parts}
-use Rattle.earlier.specs.Ordered.{Order, linksAnswerBy, meshAnswerBy, recordAnswerBy, recordsAnswerBy, bookAnswerBy, decodedBy, planAnswerBy, plannedBy}
+use Rattle.earlier.specs.Laws.Each.{links-each, each-links, mesh-parts}
+use Rattle.earlier.specs.Laws.Books.{book-links, links-book, decoded-by}
+use Rattle.earlier.specs.Ordered.{Order, linksAnswerBy, meshAnswerBy, bookAnswerBy, decodedBy, planAnswerBy, plannedBy}
 
 module _ (o o′ : Order) (wider : (plow phigh low high : ℕ) → o plow phigh low high ≡ true → o′ plow phigh low high ≡ true) where
   -- ---- the mesh checks
@@ -32,39 +26,15 @@ module _ (o o′ : Order) (wider : (plow phigh low high : ℕ) → o plow phigh 
 
   -- ---- reading
 
-  record-wider : (n end : ℕ) (p : Link) (at : ℕ) (s : List ℕ) → recordAnswerBy o n end p at s ≡ Accepted → recordAnswerBy o′ n end p at s ≡ Accepted
-  unfolding recordAnswerBy
-  record-wider n end p at s e =
-      let (some, e1) = must-accepted (ltb 0 (length s)) _ _ _ e in
-      let (known, e2) = must-accepted (not (reserved (getD s 0 0))) _ _ _ e1 in
-      let (whole, e3) = must-accepted (leb (recordLength (getD s 0 0)) (length s)) _ _ _ e2 in
-      let (needed, e4) = must-accepted (not (needless (getD s 0 0) (fieldsOf p (fieldsAt p s)))) _ _ _ e3 in
-      let (apart, inside, after) = link-parts o n p (asLink (fieldsAt p s)) at e4 in
-      rw (some, known, whole, needed, apart, inside, wider _ _ _ _ after)
-
-  records-wider : (n end : ℕ) (p : Link) (at k : ℕ) (s : List ℕ) → recordsAnswerBy o n end p at k s ≡ Accepted → recordsAnswerBy o′ n end p at k s ≡ Accepted
-  unfolding recordsAnswerBy
-  records-wider n end p at zero s e = e
-  records-wider n end p at (suc k) s e =
-      let (first, rest) = andThen-accepted (recordAnswerBy o n end p at s) _ e in
-      rw (record-wider n end p at s first) (records-wider n end (asLink (fieldsAt p s)) (at + recordLength (getD s 0 0)) k (drop (recordLength (getD s 0 0)) s) rest)
-
   book-wider : (s : List ℕ) → bookAnswerBy o s ≡ Accepted → bookAnswerBy o′ s ≡ Accepted
-  unfolding bookAnswerBy
-  book-wider s e =
-      let (header, rest) = andThen-accepted (headerAnswer s) _ e in
-      rw header (records-wider (getD s 1 0) (length s) zeroLink 4 (number 2 s 2) (drop 4 s) rest)
+  book-wider s e = links-book s o e o′ (links-wider _ _ _ _ (book-links s o e))
 
   -- the same mesh is read
   pub decoded-wider : (s : List ℕ) → decodedBy o s .answer ≡ Accepted → decodedBy o′ s ≡ decodedBy o s
   unfolding decodedBy
   decoded-wider s e =
-      let a : bookAnswerBy o s ≡ Accepted = sym (answered (bookAnswerBy o s)) ∙ e in
+      let a : bookAnswerBy o s ≡ Accepted = sym (decoded-by o s) ∙ e in
       rw (a, book-wider s a) refl
-    where
-      answered : (a : Answer) → decodedAs a (meshOf s) .answer ≡ a
-      answered Accepted = refl
-      answered (Refused number place) = refl
 
   -- ---- planning
 

@@ -77,11 +77,15 @@ module _ (g : Digraph) (c : Failure) where
         count-le (λ m. eqb m j || (eqb m i || not (blocked m))) (g .links),
       )
 
+  -- every simple path has a link
+  some-link : Sound g c → (p : List ℕ) → SimplePath g c p → 1 ≤ length p
+  some-link sound p r = one-link g (r .chain) (sound .apart)
+
   -- two links are blocked, as by the loss of a node
   pub two-blocked-made : Sound g c → (i j : ℕ) → i < g .links → j < g .links → i ≢ j → blocked i ≡ true → blocked j ≡ true
       → {n : ℕ} {f : Flood} → Progress g c n f → n + 5 ≤ 2 * g .links
   two-blocked-made sound i j l m n t u q =
-      omega (arith, made-most-but g c sound 1 (λ p r. one-link g (r .chain) (sound .apart)) q, usable-two i j l m n t u)
+      omega (arith, made-most-but g c sound 1 (some-link sound) q, usable-two i j l m n t u)
 
 -- ---- a cut
 
@@ -103,16 +107,13 @@ module _ {g : Digraph} {k : ℕ} (k< : k < g .links) {n : ℕ} {f : Flood} (q : 
   cut-made-rest e = made-all-rest g (cut g k) q (omega (arith, made-most g (cut g k) q, cut-usable g k k<))
 
   module _ (sound : Sound g (cut g k)) where
-    one : (p : List ℕ) → SimplePath g (cut g k) p → 1 ≤ length p
-    one p r = one-link g (r .chain) (sound .apart)
-
     -- there are 3 fewer than twice the links
     pub cut-made-3 : n + 3 ≤ 2 * g .links
-    cut-made-3 = omega (arith, made-most-but g (cut g k) sound 1 one q, cut-usable g k k<)
+    cut-made-3 = omega (arith, made-most-but g (cut g k) sound 1 (some-link g (cut g k) sound) q, cut-usable g k k<)
 
     -- and after so many none is under way
     pub cut-made-3-rest : n + 3 ≡ 2 * g .links → atRest g f ≡ true
-    cut-made-3-rest e = made-all-but-rest g (cut g k) sound 1 one q (omega (arith, cut-usable g k k<))
+    cut-made-3-rest e = made-all-but-rest g (cut g k) sound 1 (some-link g (cut g k) sound) q (omega (arith, cut-usable g k k<))
 
     -- and 4, where no other link leads straight from the head of k to its tail
     pub cut-made-4 : ((i : ℕ) → i < g .links → i ≢ k → g .tail i ≡ g .head k → g .head i ≢ g .tail k) → n + 4 ≤ 2 * g .links

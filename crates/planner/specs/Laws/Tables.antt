@@ -14,15 +14,12 @@ use Rattle.rows.specs.Laws.Edges.{length-flip, flip-edge}
 use Rattle.rows.specs.Laws.Meeting.{meet-leads, apart-none}
 use Rattle.nets.specs.Nets.{Table}
 use Rattle.nets.specs.Parallel.{Parallel, Ordered}
+use Rattle.nets.specs.Laws.Parallel.{parallel-arc}
 use Rattle.nets.specs.Laws.Table.{opened, to-leads, from-leads, same-ways, end-in, put-way}
 use Rattle.planner.specs.Parallel.{Another, Only, Stays}
 use Rattle.planner.specs.Laws.Shut.{shut, shut-says, shut-both, either-way, not-self}
 
 -- ---- ways with the same ends
-
-parallel-end : (G : Net) (i k : ℕ) → Parallel G i k → (d : Bool) → end G i d ≡ end G k d
-parallel-end G i k (low, high) false = low
-parallel-end G i k (low, high) true = high
 
 -- they are the same way of links with the same ends
 same-way : {G : Net} → Ordered G → (i k : ℕ) (e d : Bool) → i < G .links → k < G .links → end G i e ≡ end G k d → end G i (not e) ≡ end G k (not d)
@@ -43,19 +40,9 @@ keep-way {G} {w} T k d (i, l, n, o, t) = record {
   where
     keep : {u v : ℕ} → Arc G w u v → Arc G (shut k d w) u v
     keep a = elim (ℕ-discrete (a .link) k) [
-      | yes e ↦ ⊎-elim (λ q. other a e q) (λ q. reopen a (shut-says k d w _ _ .1 (a .free, λ (_, r). not-self d (sym r ∙ q)))) (either-way (a .way) d)
+      | yes e ↦ ⊎-elim (λ q. parallel-arc t l a e (shut-says k d w i (a .way) .1 (rw q o, λ (s, _). n s))) (λ q. reopen a (shut-says k d w _ _ .1 (a .free, λ (_, r). not-self d (sym r ∙ q)))) (either-way (a .way) d)
       | no m ↦ reopen a (shut-says k d w _ _ .1 (a .free, λ (e, _). m e))
     ]
-      where
-        other : {u v : ℕ} (a : Arc G w u v) → a .link ≡ k → a .way ≡ d → Arc G (shut k d w) u v
-        other a e q = record {
-          link = i;
-          way = d;
-          below = l;
-          free = shut-says k d w i d .1 (o, λ (s, _). n s);
-          starts = a .starts ∙ rw (e, q) (sym (parallel-end G i k t d));
-          ends = a .ends ∙ rw (e, q) (sym (parallel-end G i k t (not d)));
-        }
 
 module _ {G : Net} (F : Fits G) (n : G .nodes ≤ 64) (O : Ordered G) (k : ℕ) (h : k < G .links) {w : Ways} {rows : List ℕ} (T : Table G w rows) (d : Bool) where
   -- no other link has it
