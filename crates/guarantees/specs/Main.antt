@@ -12,9 +12,10 @@ use Rattle.scan.specs.Total.{bit, count}
 use Rattle.scan.specs.Bytes.{AreBytes}
 use Rattle.mesh.specs.declared.Mesh.{Mesh}
 use Rattle.mesh.specs.declared.Answer.the-variants.{Accepted, Refused}
-use Rattle.mesh.specs.Mesh.{zeroMesh, follows, meshAnswer}
+use Rattle.mesh.specs.Mesh.{zeroMesh, follows, endsAnswer, meshAnswer}
 use Rattle.mesh.specs.WellFormed.{WellFormed, InRange, link, duct, SameEnds, OnlyLink}
-use Rattle.mesh.specs.Refusal.{Refusal, previous}
+use Rattle.mesh.specs.Refusal.{Below, Refusal, previous}
+use Rattle.mesh.specs.Laws.Ends.{order-refused}
 use Rattle.mesh.specs.Laws.Checked.{checks}
 use Rattle.mesh.specs.Laws.Refused.{refused-only}
 use Rattle.fields.specs.Record.{recordOf}
@@ -556,6 +557,12 @@ drill-bench = drillComputed.computed
 
 -- ---- 02, request 7: two fibres between the same nodes. What stands above of the mesh checks, the book, the plan, the calls, the carry-over, the duct query and the
 -- collection route is for meshes with any number of links between the same nodes
+
+-- of a link with the ends low and high after one with the ends plow and phigh, in a mesh and in a book alike, 8 is the answer exactly where its ends are two of n
+-- nodes, the low one first, and its pair is below that of the previous one
+pub order-refuses : (n plow phigh low high place : ℕ)
+    → (endsAnswer n plow phigh low high place ≡ Refused 8 place) ↔ ((low < high) × (high < n) × Below plow phigh low high)
+order-refuses = order-refused
 
 -- the checks, reading and planning by an order test on neighbouring pairs: by the test of now they are the library's
 pub ordered-now :

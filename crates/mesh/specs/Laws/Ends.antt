@@ -7,13 +7,13 @@ use native.Mathlib.Decide.{decLt}
 use native.Mathlib.Omega.{arith}
 use lib.Dec.{ltb}
 use borrow.Author.Tests.{ltb-true, ltb-false, lt-ltb}
-use Rattle.scan.specs.Test.{branch, fails, Says, lt-says, le-says, eq-says, and-says, or-says}
+use Rattle.scan.specs.Test.{branch, fails, failing, Says, lt-says, le-says, eq-says, and-says, or-says}
 use Rattle.mesh.specs.declared.Answer.{Answer}
-use Rattle.mesh.specs.declared.Answer.the-variants.{Accepted}
+use Rattle.mesh.specs.declared.Answer.the-variants.{Accepted, Refused}
 use Rattle.mesh.specs.Mesh.{follows, endsAnswer}
 use Rattle.mesh.specs.WellFormed.{NotBelow}
 use Rattle.mesh.specs.Refusal.{Below, EndsFault, low-not-below-high, end-not-below-nodes, pair-below}
-use Rattle.mesh.specs.Laws.Answer.{Tells, accepting, refusing, told-accepted}
+use Rattle.mesh.specs.Laws.Answer.{Tells, accepting, refusing, told-accepted, told-refused}
 
 module _ (plow phigh low high : ℕ) where
   pub follows-says : Says (follows plow phigh low high) (NotBelow plow phigh low high)
@@ -60,3 +60,17 @@ module _ (n plow phigh low high place : ℕ) where
   pub ends-accepted : (endsAnswer n plow phigh low high place ≡ Accepted) ↔ ((low < high) × (high < n) × (follows plow phigh low high ≡ true))
   unfolding endsAnswer
   ends-accepted = (λ e. told-accepted (subst Told e ends-told), λ h. rw (lt-ltb low high (h .0), lt-ltb low n (omega arith), lt-ltb high n (h .1), h .2))
+
+  -- 8 exactly for a link whose ends are two nodes in order and whose pair is below the previous one
+  pub order-refused : (endsAnswer n plow phigh low high place ≡ Refused 8 place) ↔ ((low < high) × (high < n) × Below plow phigh low high)
+  unfolding endsAnswer
+  order-refused = (
+    λ e. by (told-refused (subst Told e ends-told) .0) refl,
+    λ (apart, inside, b).
+        rw (lt-ltb low high apart, lt-ltb low n (omega arith), lt-ltb high n inside, failing (follows-says plow phigh low high) (λ f. not-both plow phigh low high f b)) refl,
+  )
+    where
+      by : {number : ℕ} → EndsFault n plow phigh low high number → number ≡ 8 → (low < high) × (high < n) × Below plow phigh low high
+      by (low-not-below-high h) e = absurd (omega arith)
+      by (end-not-below-nodes h f) e = absurd (omega arith)
+      by (pair-below apart inside b) e = (apart, inside, b)
