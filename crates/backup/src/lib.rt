@@ -1,5 +1,7 @@
 // The floods on the back-up digraphs of a mesh under a cut, on arrays that are lent. A mesh is given by its number of links, their directions and
 // their ends as numbers, as `mesh::split` stores them; any other numbers are taken as they are.
+#![tactic(auto)]
+
 ghost use Rattle.std.specs.Prelude.{◌≡◌};
 ghost use Rattle.mesh.specs.declared.Mesh.{Mesh};
 ghost use Rattle.flood.specs.Digraph.{Digraph, cut};

@@ -1,6 +1,8 @@
 // Repeats one job on one book, for measuring: a job byte (D decode, E encode, P plan, R run to rest, S run to rest of wavelength 1 alone,
 // C one cut, L one delivery, U one status, V one status at rest, B one collection route), a number of repeats (4 bytes, low byte first), a book.
 // The length of link 0 is another in each repeat, or for a collection route the root. Prints one line from the last result.
+#![tactic(auto)]
+
 mod collections;
 mod floods;
 mod job;

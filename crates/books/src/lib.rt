@@ -1,4 +1,6 @@
 // The lines of a book: what the library reads from it, writes again, and shows of one record (docs/CORPUS.md, lines of a book).
+#![tactic(auto)]
+
 pub mod entries;
 pub mod written;
 

@@ -1,4 +1,6 @@
 // The survey of a mesh: into which parts it falls, and which links it cannot lose. It names all that stands behind refusals 20 and 21, which name the first alone.
+#![tactic(auto)]
+
 ghost use Rattle.std.specs.Prelude.{◌<◌, ◌≤◌, ◌≡◌};
 ghost use Rattle.scan.specs.Total.{bit};
 ghost use Rattle.mesh.specs.declared.Answer.TheVariants.{Accepted};

@@ -1,5 +1,7 @@
 // Reads a book and a root from standard input, and prints the collection route from that root and the links of its tree
 // (docs/CORPUS.md, the program bus). A refusal of reading or of the route is the only line.
+#![tactic(auto)]
+
 use books::entries::show_link;
 use clients::route::collect;
 use mesh::{Answer, Mesh};

@@ -1,4 +1,6 @@
 // One call that a letter and a number say: the session that it returns or leaves, and its answer as numbers.
+#![tactic(auto)]
+
 ghost use Rattle.std.specs.Prelude.{◌≡◌};
 ghost use Rattle.call.specs.Encoding.{call_of};
 ghost use Rattle.call.specs.Record.{made, made_change, made_delivery, made_run, status_numbers, made_of};

@@ -1,5 +1,7 @@
 // Reads a book and calls from standard input, starts a session on the book's mesh and its plan, makes the calls by value, and prints
 // their answers and the session at the end (docs/CORPUS.md, the program calls). A refusal of reading or planning is the only line.
+#![tactic(auto)]
+
 use clients::session::begin;
 use mesh::{Answer, Mesh};
 use replies::session::show_session;

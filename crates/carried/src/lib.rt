@@ -1,1 +1,2 @@
 // Lists of calls across a carry-over: theory.
+#![tactic(auto)]

@@ -1,5 +1,7 @@
 // The calls that change the floods of a session, on the session's pieces: the mesh and the cut by value, the arrays of the plan and of the floods
 // lent, those of wavelength 1 and then those of wavelength 2. Each takes the mesh apart once and tests the record; a refused call leaves the floods alone.
+#![tactic(auto)]
+
 ghost use Rattle.flood.specs.Lent.{flood};
 ghost use Rattle.wavelengths.specs.Wavelength.{pair};
 ghost use Rattle.changes.specs.Changes.{AfterCut, AfterDelivery, AfterRun};

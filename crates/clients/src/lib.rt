@@ -1,5 +1,7 @@
 // Proved clients of the library: functions that make its calls and whose contracts are the theorem page's own words. A call whose contract said less
 // than its definition would break the proof of its client here.
+#![tactic(auto)]
+
 pub mod book;
 pub mod duct;
 pub mod route;

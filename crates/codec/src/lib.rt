@@ -1,4 +1,6 @@
 // The codec of the book: decode, encode, and the bytes of one record.
+#![tactic(auto)]
+
 ghost use Rattle.std.specs.Prelude.{◌≡◌, length};
 ghost use Rattle.codec.specs.Book.{decoded, encoded, output_after, span_answer, span_of, record_part, offset};
 

@@ -1,4 +1,6 @@
 // The collection route: from a root the walk of a depth-first search, which meets every node and comes back (02, request 5).
+#![tactic(auto)]
+
 ghost use Rattle.std.specs.Prelude.{◌≡◌, ◌≤◌, length, take};
 ghost use Rattle.std.proofs.lemmas.List.Edits.{sets};
 ghost use Rattle.mesh.specs.declared.Answer.TheVariants.{Accepted, Refused};

@@ -1,4 +1,6 @@
 // Reads the corpus from standard input and prints what the library answers to each case (docs/CORPUS.md).
+#![tactic(auto)]
+
 mod book;
 mod calls;
 mod case;

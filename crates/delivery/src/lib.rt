@@ -1,6 +1,8 @@
 // The failure and one delivery, on arrays that are lent, with the source x and the target y. Link i may be offered where starts[i] is its tail. Of `count`
 // links the first 256 are there; a delivery past them changes nothing, and a node past 63 is never reached.
 // A delivery on link k says below which link none is under way where none was below k: there the next search starts.
+#![tactic(auto)]
+
 ghost use Rattle.std.specs.Prelude.{◌≡◌, ℕ, ◌<◌, ◌≤◌, min, Bool, true, List, set};
 ghost use Rattle.scan.specs.Entry.{has};
 ghost use Rattle.flood.specs.Machine.{begin, arrive, withdraw, step};

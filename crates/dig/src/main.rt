@@ -1,5 +1,7 @@
 // Reads a book, a letter and a number from standard input, and prints the links that share the duct of a link, or those in a duct
 // (docs/CORPUS.md, the program dig). A refusal of reading is the only line, and so is a duct without a link.
+#![tactic(auto)]
+
 use books::entries::show_link;
 use clients::duct::{lowest_in, sharing};
 use mesh::{Answer, Mesh};

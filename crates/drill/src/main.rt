@@ -1,5 +1,7 @@
 // Reads a number of middle nodes from standard input and writes the book of the heaviest drill with so many (02, request 6): its bytes and nothing
 // else. Another input gives the line `refused`. Where the input cannot be read, it says so on stderr alone.
+#![tactic(auto)]
+
 mod book;
 
 use book::write_drill;

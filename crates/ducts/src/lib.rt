@@ -1,4 +1,6 @@
 // The query by duct: which links share the duct of a link (02, request 4).
+#![tactic(auto)]
+
 ghost use Rattle.std.specs.Prelude.{◌≡◌, length};
 ghost use Rattle.mesh.specs.declared.Answer.TheVariants.{Refused};
 ghost use Rattle.ducts.specs.Sharing.{shared_as, shared, output_after};

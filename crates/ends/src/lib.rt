@@ -1,5 +1,7 @@
 // The quick tests of a mesh's links, on the ends of all as numbers, 256 × low + high: two passes without a branch, which the compiler makes
 // wide compares of. Where they say yes each link passes; where they say no nothing is said.
+#![tactic(auto)]
+
 ghost use Rattle.std.specs.Prelude.{◌≡◌, true, ℕ, ◌+◌, ◌<◌, ◌≤◌, min};
 ghost use Rattle.ends.specs.Ends.{low_of, high_of, Fits, Rising};
 

@@ -1,4 +1,6 @@
 // The loops over the entries of a record. No branch between the entries of a block, so that the compiler can test several at once.
+#![tactic(auto)]
+
 ghost use Rattle.std.specs.Prelude.{◌≡◌, not, ◌||◌, ℕ, ◌+◌, ◌≤◌, max, ltb};
 ghost use Rattle.scan.specs.Entry.{at};
 ghost use Rattle.scan.specs.Lowest.{any};

@@ -1,4 +1,6 @@
 // The layout of a record, which the reader and the writer share: bit map, widths, absent values.
+#![tactic(auto)]
+
 ghost use Rattle.std.specs.Prelude.{◌≡◌, cond, ◌≤◌};
 ghost use Rattle.fields.specs.Field.{field, sum, differs, bit_map, odd, extent};
 ghost use Rattle.fields.specs.Record.{fields_of, widths, longest_record, record_length};

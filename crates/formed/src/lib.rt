@@ -1,4 +1,6 @@
 // The test of a session's record: the mesh checks, then 13.
+#![tactic(auto)]
+
 ghost use Rattle.std.specs.Prelude.{◌≡◌};
 ghost use Rattle.mesh.specs.Parts.{parts_answer};
 ghost use Rattle.formed.specs.Formed.{cut_link, misplaced};

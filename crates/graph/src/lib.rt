@@ -1,1 +1,2 @@
 // Theory only: walks, nets, reachability and orientations.
+#![tactic(auto)]

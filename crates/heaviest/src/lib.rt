@@ -1,4 +1,6 @@
 // The heaviest drill (02, request 6): its number of middle nodes read from an input, and its mesh.
+#![tactic(auto)]
+
 ghost use Rattle.std.specs.Prelude.{◌≡◌};
 ghost use Rattle.heaviest.specs.Input.{middles_of, asked};
 ghost use Rattle.heaviest.specs.Drill.{drill_of};

@@ -1,4 +1,6 @@
 // Cut, delivery and mend on a session that the host lends: each makes the call by value and stores the session that it returns.
+#![tactic(auto)]
+
 ghost use Rattle.std.specs.Prelude.{◌≡◌};
 ghost use Rattle.recovery.specs.Calls.{after_cut, after_delivery, after_mend};
 

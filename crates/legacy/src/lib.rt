@@ -1,5 +1,7 @@
 // The session record from before wavelength 2, as switches in service hold it, and its test. These types never change: the record of now has types of its
 // own.
+#![tactic(auto)]
+
 ghost use Rattle.std.specs.Prelude.{◌≡◌};
 ghost use Rattle.legacy.specs.Record.{misplaced, ill_formed, record_answer};
 ghost use Rattle.legacy.specs.WellFormed.{InRange};

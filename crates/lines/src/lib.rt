@@ -1,4 +1,6 @@
 // The lines of a listing: the mesh, each link with its direction, and what each cut leads to on wavelength 1 (01, the program meshplan).
+#![tactic(auto)]
+
 use clients::session::recover;
 use flood::Route;
 use metres::Length;

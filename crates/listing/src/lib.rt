@@ -1,4 +1,6 @@
 // The listing of a book: its mesh, its plan and what each cut leads to (01, the program meshplan).
+#![tactic(auto)]
+
 ghost use Rattle.std.specs.Prelude.{◌≡◌};
 ghost use Rattle.listing.specs.Listing.{list_answer};
 

@@ -1,4 +1,6 @@
 // The mesh record and its checks.
+#![tactic(auto)]
+
 ghost use Rattle.std.specs.Prelude.{◌≡◌};
 ghost use Rattle.mesh.specs.Mesh.{zero_link, zero_mesh, mesh_answer, ends_answer, nodes_fit, count_fits};
 ghost use Rattle.mesh.specs.WellFormed.{InRange};

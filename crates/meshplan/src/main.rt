@@ -1,4 +1,6 @@
 // Reads a book from standard input and prints its listing (01, the program meshplan). An input that cannot be read is no empty book.
+#![tactic(auto)]
+
 use libc::STDERR_FILENO;
 use streams::input::read_input;
 

@@ -1,4 +1,6 @@
 // The links of a mesh as rows of digits, and the search behind refusal 20.
+#![tactic(auto)]
+
 ghost use Rattle.std.specs.Prelude.{◌≡◌, min};
 ghost use Rattle.nets.specs.Nets.{rows_of, Finds};
 

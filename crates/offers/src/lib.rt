@@ -1,4 +1,6 @@
 // Offers: one pass over the links, without a branch, so that the compiler takes many links at a time.
+#![tactic(auto)]
+
 ghost use Rattle.std.specs.Prelude.{◌≡◌, min, cond};
 ghost use Rattle.scan.specs.Entry.{at};
 ghost use Rattle.scan.specs.Lowest.{any};

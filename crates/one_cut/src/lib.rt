@@ -1,4 +1,6 @@
 // What one cut leads to on wavelength 1, on a mesh and its plan.
+#![tactic(auto)]
+
 ghost use Rattle.std.specs.Prelude.{◌≡◌};
 ghost use Rattle.one_cut.specs.OneCut.{metres_of, status_metres, ran, recovered};
 

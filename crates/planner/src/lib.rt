@@ -1,4 +1,6 @@
 // The planner: the first admissible assignment of directions to a mesh's links.
+#![tactic(auto)]
+
 ghost use Rattle.std.specs.Prelude.{◌≡◌};
 ghost use Rattle.planner.specs.Plan.{zero_plan, planned};
 

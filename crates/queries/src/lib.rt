@@ -1,5 +1,7 @@
 // What is asked of a session, on its pieces: the mesh and the cut by value, the arrays of the plan and of the floods lent, those of wavelength 1
 // and then those of wavelength 2. Each takes the mesh apart once and tests the record; none changes a flood.
+#![tactic(auto)]
+
 ghost use Rattle.std.specs.Prelude.{◌≡◌, cond, []};
 ghost use Rattle.flood.specs.Lent.{flood};
 ghost use Rattle.flood.specs.Digraph as failures;

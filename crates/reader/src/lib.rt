@@ -1,4 +1,6 @@
 // Reading the header of a book, and one record.
+#![tactic(auto)]
+
 mod cursor;
 mod number;
 

@@ -1,5 +1,7 @@
 // The recovery machine: a session on a mesh and a plan, and its calls by value. Each call takes the session apart once, hands its pieces to a
 // function of the crate `changes`, `status` or `queries`, and puts the session together once.
+#![tactic(auto)]
+
 ghost use Rattle.std.specs.Prelude.{◌≡◌, replicate};
 ghost use Rattle.flood.specs.Machine.{fresh};
 ghost use Rattle.pieces.specs.Pieces.{chosen};

@@ -1,4 +1,6 @@
 // The refusals of each call in the order of 01 and 02, on what they look at. `tested` is the answer to the record: its refusal comes first.
+#![tactic(auto)]
+
 ghost use Rattle.std.specs.Prelude.{◌≡◌};
 ghost use Rattle.scan.specs.Entry.{at};
 ghost use Rattle.flood.specs.Machine.{under_way};

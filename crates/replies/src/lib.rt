@@ -1,4 +1,6 @@
 // The lines of calls and of sessions (docs/CORPUS.md, lines of a script).
+#![tactic(auto)]
+
 pub mod call;
 pub mod session;
 

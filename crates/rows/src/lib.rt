@@ -1,5 +1,7 @@
 // Arcs between 64 nodes as rows of binary digits, and the walks along them. A second table can have the same arcs by the node that they enter.
 // The number of a node counts modulo 64.
+#![tactic(auto)]
+
 ghost use Rattle.std.specs.Prelude.{◌≡◌, ◌%◌, ◌<◌, ◌^◌, get_or};
 ghost use Rattle.scan.specs.Bits.{has};
 ghost use Rattle.rows.specs.Rows.{Spread, Searched, put, flip, cut, LinkDirected};

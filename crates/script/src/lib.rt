@@ -1,6 +1,8 @@
 // The calls of a script (docs/CORPUS.md), read from standard input and made as lists by `lists::make_calls`. A route query,
 // which is no call of such a list, ends one. Each list is made on two copies of the session: on one by value, on the other in place
 // where the call has that form.
+#![tactic(auto)]
+
 mod held;
 mod made;
 

@@ -1,4 +1,6 @@
 // Searches over the links: by blocks, which the compiler makes a few wide compares of, then one by one.
+#![tactic(auto)]
+
 ghost use Rattle.std.specs.Prelude.{◌≡◌, ◌+◌, ◌≤◌, min};
 ghost use Rattle.scan.specs.Lowest.{lowest, any};
 ghost use Rattle.flood.specs.Lent.{held, taken, busy, busy_from};

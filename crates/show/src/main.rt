@@ -1,5 +1,7 @@
 // Reads a book from standard input and prints what the library reads from it, writes for it, and shows of its first record
 // (docs/CORPUS.md, the program show). An input that cannot be read is no empty book.
+#![tactic(auto)]
+
 use books::show_book;
 use codec::LONGEST_BOOK;
 use libc::STDERR_FILENO;

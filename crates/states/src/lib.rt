@@ -1,5 +1,7 @@
 // Tests on a link's state, and counts over the states of the links, on arrays that are lent. Of the links that are said to be there the first 256
 // count.
+#![tactic(auto)]
+
 ghost use Rattle.std.specs.Prelude.{◌≡◌, min};
 ghost use Rattle.flood.specs.Machine.{under_way};
 

@@ -1,5 +1,7 @@
 // The status of a link, on the pieces of a session: the mesh and the cut by value, the arrays of the plan and of the floods lent, those of wavelength 1
 // and then those of wavelength 2. It takes the mesh apart once and tests the record; it changes no flood.
+#![tactic(auto)]
+
 ghost use Rattle.std.specs.Prelude.{◌≡◌, ◌<◌, min};
 ghost use Rattle.scan.specs.Entry.{at};
 ghost use Rattle.scan.specs.Listed.{Listing};

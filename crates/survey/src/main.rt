@@ -1,5 +1,7 @@
 // Reads a book from standard input and prints the parts of its mesh and its bridging links (docs/CORPUS.md, the program survey). A refusal of reading is the
 // only line. An input that cannot be read is no empty book.
+#![tactic(auto)]
+
 use bridges::survey;
 use libc::STDERR_FILENO;
 use mesh::{Answer, Mesh};

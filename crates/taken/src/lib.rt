@@ -1,4 +1,6 @@
 // The taken links as a list: by blocks, which the compiler makes a few wide compares of, then one by one.
+#![tactic(auto)]
+
 ghost use Rattle.std.specs.Prelude.{◌≡◌, ◌+◌, ◌≤◌, min, length};
 ghost use Rattle.scan.specs.Lowest.{any};
 ghost use Rattle.scan.specs.Listed.{Listing};

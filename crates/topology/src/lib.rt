@@ -1,5 +1,7 @@
 // The back-up digraph of a wavelength under a plan, with the failure of one link, on arrays that are lent. A mesh's links are given by their ends as
 // numbers, as `mesh::split` stores them.
+#![tactic(auto)]
+
 ghost use Rattle.std.specs.Prelude.{◌≡◌, set};
 ghost use Rattle.scan.specs.Entry.{at};
 ghost use Rattle.wavelengths.specs.declared.Wavelength.TheVariants.{First};

@@ -1,4 +1,6 @@
 // A session from before wavelength 2 becomes a session of now (02, request 3).
+#![tactic(auto)]
+
 ghost use Rattle.std.specs.Prelude.{◌≡◌};
 ghost use Rattle.recovery.specs.Calls.{zero_session};
 ghost use Rattle.upgrade.specs.Carried.{link_of, mesh_of, plan_of, flood_of, cut_again, carried};

@@ -1,4 +1,6 @@
 // Writing a book.
+#![tactic(auto)]
+
 mod header;
 mod number;
 mod record_writer;
