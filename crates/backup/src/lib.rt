@@ -20,7 +20,7 @@ use topology::entry;
 use wavelengths::Wavelength;
 
 // What became of a delivery's link: its state, and the nodes from which and to which it leads.
-#[derive(Drop)]
+#[derive(Clone, Copy)]
 pub struct Acted {
     pub state: u8,
     pub tail: u8,

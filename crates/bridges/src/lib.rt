@@ -15,7 +15,7 @@ use mesh::{Answer, Mesh};
 
 // What the survey gives: for each node the lowest node of its part, 0 past the last node; for each link 1 where it parts the mesh, or its own part of a mesh that is
 // apart, else 0, and 0 past the last link. On a refusal all zeros.
-#[derive(Drop)]
+#[derive(Clone, Copy)]
 pub struct Surveyed {
     pub parts: [u8; 64],
     pub bridges: [u8; 256],

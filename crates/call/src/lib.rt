@@ -11,7 +11,7 @@ mod lend;
 use recovery::{Change, Delivery, Run, Session, Status};
 
 // An answer as four numbers: which case it is, and its values.
-#[derive(Drop)]
+#[derive(Clone, Copy)]
 pub struct Numbers {
     pub case: u64,
     pub first: u64,
@@ -20,7 +20,7 @@ pub struct Numbers {
 }
 
 // A call made: the session that it returns or leaves, and its answer.
-#[derive(Drop)]
+#[derive(Clone, Copy)]
 pub struct Made {
     pub session: Session,
     pub answer: Numbers,

@@ -12,7 +12,7 @@ use mesh::{Answer, Mesh};
 use wavelengths::{Wavelength, wavelength_of};
 
 // A delivery: its answer, the state that its link has then, and the nodes from which and to which the link leads; zeros beside a refusal.
-#[derive(Drop)]
+#[derive(Clone, Copy)]
 pub struct Moved {
     pub answer: Answer,
     pub state: u8,
@@ -21,7 +21,7 @@ pub struct Moved {
 }
 
 // A run: its answer, how many deliveries it made, and whether it is at rest; zeros beside a refusal.
-#[derive(Drop)]
+#[derive(Clone, Copy)]
 pub struct Made {
     pub answer: Answer,
     pub made: u32,

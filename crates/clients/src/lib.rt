@@ -12,7 +12,7 @@ use mesh::{Answer, Plan};
 use recovery::{Report, Routed, Session, Status};
 
 // What planning and starting on a mesh give.
-#[derive(Drop)]
+#[derive(Clone, Copy)]
 pub struct Begun {
     pub session: Session,
     pub plan: Plan,
@@ -22,7 +22,7 @@ pub struct Begun {
 
 // What a cut leads to on wavelength 1: how many deliveries of an unhindered run were made on it, what the run reports of both wavelengths, and what a status
 // of the cut link and the route query answer after it.
-#[derive(Drop)]
+#[derive(Clone, Copy)]
 pub struct Recovered {
     pub deliveries: u16,
     pub report: Report,
@@ -31,14 +31,14 @@ pub struct Recovered {
 }
 
 // What reading a book and writing its mesh give.
-#[derive(Drop)]
+#[derive(Clone, Copy)]
 pub struct Rewritten {
     pub reading: Answer,
     pub writing: Encoded,
 }
 
 // What checking a mesh, writing it and reading what was written give.
-#[derive(Drop)]
+#[derive(Clone, Copy)]
 pub struct Reread {
     pub checking: Answer,
     pub writing: Encoded,
@@ -46,7 +46,7 @@ pub struct Reread {
 }
 
 // One byte of a record, and the answer to showing the record.
-#[derive(Drop)]
+#[derive(Clone, Copy)]
 pub struct RecordByte {
     pub byte: u8,
     pub answer: Answer,

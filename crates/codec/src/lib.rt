@@ -13,14 +13,14 @@ use mesh::{Answer, Mesh};
 pub const LONGEST_BOOK: usize = writer::LONGEST_BOOK;
 
 // What reading gives: the mesh, all zero on a refusal.
-#[derive(Drop)]
+#[derive(Clone, Copy)]
 pub struct Decoded {
     pub mesh: Mesh,
     pub answer: Answer,
 }
 
 // What writing gives: the length of the book, 0 on a refusal.
-#[derive(Drop)]
+#[derive(Clone, Copy)]
 pub struct Encoded {
     pub length: usize,
     pub answer: Answer,

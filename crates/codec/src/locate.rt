@@ -9,7 +9,7 @@ use fields::record_length;
 use mesh::Answer;
 
 // Where a record stands in its book: from start up to, not including, end.
-#[derive(Drop)]
+#[derive(Clone, Copy)]
 pub(crate) struct Span {
     pub start: usize,
     pub end: usize,

@@ -14,7 +14,7 @@ use mesh::{Answer, Mesh};
 
 // What the call gives: whether each link is one of the tree, which none past the last link is, and how many entries were written; on a refusal no link is, and no
 // entry was written.
-#[derive(Drop)]
+#[derive(Clone, Copy)]
 pub struct Collected {
     pub tree: [bool; 256],
     pub count: usize,

@@ -10,7 +10,7 @@ mod links;
 use mesh::{Answer, Mesh};
 
 // What the query gives: how many links were listed, 0 on a refusal.
-#[derive(Drop)]
+#[derive(Clone, Copy)]
 pub struct Shared {
     pub count: usize,
     pub answer: Answer,

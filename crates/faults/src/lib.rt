@@ -9,7 +9,7 @@ ghost use Rattle.faults.specs.Faults.{overflows, strays, highest, joined_bits, i
 use ends::lower;
 
 // What the entries of an array are.
-#[derive(Drop)]
+#[derive(Clone, Copy)]
 pub enum Kind {
     Direction,
     State,

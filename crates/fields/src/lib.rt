@@ -26,7 +26,7 @@ pub const LONGEST_RECORD: usize = 1 + LOW + HIGH + LENGTH + PAIR + DUCT;
 const RESERVED: u8 = 32;
 
 // The fields of a link. An absent high end can be 256, so it is wider than a link's.
-#[derive(Drop)]
+#[derive(Clone, Copy)]
 pub struct Fields {
     pub low: u8,
     pub high: u16,

@@ -9,7 +9,7 @@ ghost use Rattle.flooding.specs.Ended.{Ended, Turned};
 use states::links_of;
 
 // What a run did: how many deliveries it made on both together, and whether no link is under way on either then.
-#[derive(Drop)]
+#[derive(Clone, Copy)]
 pub struct Outcome {
     pub made: u32,
     pub rest: bool,

@@ -12,7 +12,7 @@ use faults::{has_bad_entry, has_stray};
 use mesh::Answer;
 
 // The cut link, or none.
-#[derive(Drop)]
+#[derive(Clone, Copy)]
 pub enum Cut {
     Nothing,
     Link(u16),

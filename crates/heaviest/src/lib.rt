@@ -14,7 +14,7 @@ use mesh::Mesh;
 pub const MOST: u8 = 62;
 
 // What an input asks for: a drill with so many middle nodes, 1 to 62, or none.
-#[derive(Drop)]
+#[derive(Clone, Copy)]
 pub enum Asked {
     Middles(u8),
     Refused,

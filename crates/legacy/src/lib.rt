@@ -11,7 +11,7 @@ use mesh::Answer;
 
 mod links;
 
-#[derive(Drop)]
+#[derive(Clone, Copy)]
 pub struct OldLink {
     pub low: u8,
     pub high: u8,
@@ -19,7 +19,7 @@ pub struct OldLink {
     pub pair: u32,
 }
 
-#[derive(Drop)]
+#[derive(Clone, Copy)]
 pub struct OldMesh {
     pub links: [OldLink; 256],
     pub nodes: u8,
@@ -27,27 +27,27 @@ pub struct OldMesh {
 }
 
 // A direction for each link: 0 from its low to its high end, 1 from its high to its low end.
-#[derive(Drop)]
+#[derive(Clone, Copy)]
 pub struct OldPlan {
     pub directions: [u8; 256],
 }
 
 // The cut link, or none.
-#[derive(Drop)]
+#[derive(Clone, Copy)]
 pub enum OldCut {
     Nothing,
     Link(u16),
 }
 
 // A state per link (0 quiet, 1 offered, 2 taken, 3 refused, 4 released), and which nodes are reached.
-#[derive(Drop)]
+#[derive(Clone, Copy)]
 pub struct OldFlood {
     pub states: [u8; 256],
     pub reached: [bool; 64],
 }
 
 // Mesh, plan, the cut link or none, and one flood.
-#[derive(Drop)]
+#[derive(Clone, Copy)]
 pub struct OldSession {
     pub mesh: OldMesh,
     pub plan: OldPlan,

@@ -22,7 +22,7 @@ fn put_session(out: &mut [u8], fresh: Session) {
 }
 
 // The ends and the direction of a link.
-#[derive(Drop)]
+#[derive(Clone, Copy)]
 struct Row {
     low: u64,
     high: u64,

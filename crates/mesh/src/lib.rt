@@ -11,7 +11,7 @@ mod links;
 
 pub use links::{Parts, bits_of, ends_of, split, split_along};
 
-#[derive(Drop)]
+#[derive(Clone, Copy)]
 pub struct Link {
     pub low: u8,
     pub high: u8,
@@ -20,7 +20,7 @@ pub struct Link {
 }
 
 // The links stand first: where a mesh is stored, small fields before them would have them copied twice.
-#[derive(Drop)]
+#[derive(Clone, Copy)]
 pub struct Mesh {
     pub links: [Link; 256],
     pub nodes: u8,
@@ -29,13 +29,13 @@ pub struct Mesh {
 }
 
 // A direction for each link: 0 from its low to its high end, 1 from its high to its low end. Entries past the last link are zero.
-#[derive(Drop)]
+#[derive(Clone, Copy)]
 pub struct Plan {
     pub directions: [u8; 256],
 }
 
 // Accepted, or a refusal with 01's number and place.
-#[derive(Drop)]
+#[derive(Clone, Copy)]
 pub enum Answer {
     Accepted,
     Refused { number: u8, place: usize },

@@ -44,7 +44,7 @@ fn entry_of(link: u8) -> usize
 }
 
 // What is read off a mesh's links: whether each entry past the last link, and its duct number, is zero, and the length of the links that were listed.
-#[derive(Drop)]
+#[derive(Clone, Copy)]
 pub struct Parts {
     pub zeros: bool,
     pub length: Length,

@@ -4,7 +4,7 @@
 ghost use Rattle.std.specs.Prelude.{◌≡◌, cond};
 
 // 02's route length: a number of metres, or not known, since a link is not measured.
-#[derive(Drop)]
+#[derive(Clone, Copy)]
 pub enum Length {
     Metres(u32),
     NotKnown,

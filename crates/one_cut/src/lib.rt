@@ -20,7 +20,7 @@ const FIRST: u8 = 1;
 const NOT_KNOWN: u32 = 4294967295;
 
 // Of wavelength 1 the route, its deliveries and its metres.
-#[derive(Drop)]
+#[derive(Clone, Copy)]
 pub struct Recovered {
     pub route: Route,
     pub deliveries: u16,

@@ -9,7 +9,7 @@ mod search;
 use mesh::{Answer, Mesh, Plan};
 
 // A plan, all zeros where planning refuses.
-#[derive(Drop)]
+#[derive(Clone, Copy)]
 pub struct Planned {
     pub plan: Plan,
     pub answer: Answer,

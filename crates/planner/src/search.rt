@@ -9,7 +9,7 @@ ghost use Rattle.planner.specs.Search.{Given, Directs};
 use ends::{high_of, low_of};
 
 // A direction for each link before the first that parts the mesh, and the number of that link; the number of links where none does.
-#[derive(Drop)]
+#[derive(Clone, Copy)]
 pub(crate) struct Directions {
     pub directions: [u8; 256],
     pub bridge: u16,

@@ -19,7 +19,7 @@ use mesh::{Answer, Mesh};
 use wavelengths::{Wavelength, wavelength_of};
 
 // The route query: the links of a wavelength's route from its source on, none beside a refusal.
-#[derive(Drop)]
+#[derive(Clone, Copy)]
 pub struct Found {
     pub route: Route,
     pub answer: Answer,

@@ -10,7 +10,7 @@ use mesh::Link;
 
 // A place among the fields of a record: the bit map from the next field's bit on, where that field's bytes would start, and
 // the value of the field before.
-#[derive(Drop)]
+#[derive(Clone, Copy)]
 pub(crate) struct Place {
     pub bits: u8,
     pub at: usize,

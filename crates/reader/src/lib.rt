@@ -18,7 +18,7 @@ use number::number_at;
 const VERSION: u8 = 1;
 
 // A header: its numbers of nodes and links, both 0 on a refusal.
-#[derive(Drop)]
+#[derive(Clone, Copy)]
 pub struct Header {
     pub nodes: u8,
     pub count: u16,
@@ -26,7 +26,7 @@ pub struct Header {
 }
 
 // A record: its link with the link's duct number, and how many bytes it takes; the zero link, 0 and 0 on a refusal.
-#[derive(Drop)]
+#[derive(Clone, Copy)]
 pub struct Record {
     pub link: Link,
     pub duct: u16,

@@ -16,7 +16,7 @@ use metres::Length;
 use status::Told;
 
 // Mesh, plan, the cut link or none, and the flood on wavelength 1 and on wavelength 2.
-#[derive(Drop)]
+#[derive(Clone, Copy)]
 pub struct Session {
     pub mesh: Mesh,
     pub plan: Plan,
@@ -26,14 +26,14 @@ pub struct Session {
 }
 
 // What start, cut and mend give.
-#[derive(Drop)]
+#[derive(Clone, Copy)]
 pub struct Change {
     pub session: Session,
     pub answer: Answer,
 }
 
 // What a delivery answers: what became of its link, with the node that acted, or a refusal.
-#[derive(Drop)]
+#[derive(Clone, Copy)]
 pub enum Delivered {
     Taken(u8),
     TurnedBack(u8),
@@ -41,27 +41,27 @@ pub enum Delivered {
     Refused { number: u8, place: usize },
 }
 
-#[derive(Drop)]
+#[derive(Clone, Copy)]
 pub struct Delivery {
     pub session: Session,
     pub answer: Delivered,
 }
 
 // What a run reports: how many deliveries it made and whether it is at rest, or a refusal.
-#[derive(Drop)]
+#[derive(Clone, Copy)]
 pub enum Report {
     Made { count: u32, rest: bool },
     Refused { number: u8, place: usize },
 }
 
-#[derive(Drop)]
+#[derive(Clone, Copy)]
 pub struct Run {
     pub session: Session,
     pub report: Report,
 }
 
 // A link's state on a wavelength, how many links are under way on it, and its route length, or a refusal.
-#[derive(Drop)]
+#[derive(Clone, Copy)]
 pub enum Status {
     Link {
         state: u8,
@@ -75,7 +75,7 @@ pub enum Status {
 }
 
 // What the route query gives: the links of a wavelength's route from its x on, none on a refusal.
-#[derive(Drop)]
+#[derive(Clone, Copy)]
 pub struct Routed {
     pub route: Route,
     pub answer: Answer,

@@ -3,7 +3,7 @@ use crate::form;
 use streams::print::{end, field, number, refused, word};
 
 // The four numbers of an answer.
-#[derive(Drop)]
+#[derive(Clone, Copy)]
 pub struct Reply {
     pub case: u64,
     pub first: u64,

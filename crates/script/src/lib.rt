@@ -20,7 +20,7 @@ pub(crate) const MOST_NUMBERS: usize = 16384;
 pub(crate) const QUERY: u8 = b'Q';
 
 // The two copies of the session, and whether the lines of the second are shown.
-#[derive(Drop)]
+#[derive(Clone, Copy)]
 pub struct Copies {
     pub by_value: Session,
     pub in_place: Session,

@@ -22,7 +22,7 @@ use wavelengths::{Wavelength, wavelength_of};
 
 // The status of a link on a wavelength: its answer, the link's state, how many links are under way on that wavelength, and its route length; zeros beside a
 // refusal.
-#[derive(Drop)]
+#[derive(Clone, Copy)]
 pub struct Told {
     pub answer: Answer,
     pub state: u8,

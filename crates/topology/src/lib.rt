@@ -14,7 +14,7 @@ use wavelengths::Wavelength;
 const CLOSED: u8 = 255;
 
 // The stream that a failure loses: from its source x to its target y.
-#[derive(Drop)]
+#[derive(Clone, Copy)]
 pub struct Stream {
     pub source: u8,
     pub target: u8,

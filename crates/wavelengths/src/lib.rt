@@ -5,14 +5,14 @@ ghost use Rattle.wavelengths.specs.Wavelength.{is_wavelength, wavelength_of};
 use flood::Flood;
 
 // Wavelength 1, and wavelength 2.
-#[derive(Drop)]
+#[derive(Clone, Copy)]
 pub enum Wavelength {
     First,
     Second,
 }
 
 // The flood on wavelength 1, and that on wavelength 2.
-#[derive(Drop)]
+#[derive(Clone, Copy)]
 pub struct Floods {
     pub first: Flood,
     pub second: Flood,

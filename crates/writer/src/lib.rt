@@ -20,7 +20,7 @@ use room::lacking;
 pub const LONGEST_BOOK: usize = 4 + 256 * LONGEST_RECORD;
 
 // What writing gives: the length of the book, 0 on a refusal.
-#[derive(Drop)]
+#[derive(Clone, Copy)]
 pub struct Written {
     pub length: usize,
     pub answer: Answer,

@@ -10,7 +10,7 @@ pub loop-i-init : goal.loop-i-init
 loop-i-init c = (omega arith, past_none c.args.links 256 _)
 
 pub returns-then-is_used : goal.returns-then-is_used
-returns-then-is_used c = past_found _ 256 _ c.lower.result 64 (omega arith) (omega arith) (sym c.if-is_used.true ∙ c.is_used.ensures)
+returns-then-is_used c =     past_found _ 256 _ c.lower.result 64 (omega arith) (omega arith) (sym c.if-is_used.true ∙ c.is_used.ensures)
 
 pub loop-i-preserved : goal.loop-i-preserved
 loop-i-preserved c =

@@ -3,7 +3,7 @@
 use Rattle.std.specs.Prelude.{ℕ, ◌+◌, ◌<◌, ◌≤◌, max, min, ◌≡◌, refl, ◌⊎◌, Bool, true, false, cond, not, ◌&&◌, ◌||◌, List, eqb, leb}
 use Rattle.std.proofs.Math.Path.{sym}
 use Rattle.std.proofs.Common.{ap, ◌∙◌, inl, inr, ⊎_elim, arith}
-use Rattle.std.proofs.Math.Bool.{or_false, or-true, and-or_distrib_left}
+use Rattle.std.proofs.Math.Bool.{or-false, or-true, and-or_distrib_left}
 use Rattle.std.proofs.Math.Decide.{ℕ_discrete, dec_lt}
 use Rattle.std.specs.Int.Bits.{bit_or}
 use Rattle.std.proofs.Math.Dec.{ltb}
@@ -86,7 +86,7 @@ module _ (links top : ℕ) (entries : List ℕ) where
   over-parts i = go (dec_lt i links) (ℕ_discrete (at entries i) 0)
     where
       go : Dec (i < links) → Dec (at entries i ≡ 0) → ltb (cond (ltb i links) top 0) (at entries i) ≡ (above i || left i)
-      go (yes l) d = rw (lt-ltb i links l, lt-leb links i l) (sym (or_false (above i)))
+      go (yes l) d = rw (lt-ltb i links l, lt-leb links i l) (sym (or-false (above i)))
       go (no l) (yes z) = rw (le-ltb i links (omega arith), le-leb links i (omega arith), le-ltb 0 (at entries i) (omega arith), eq-eqb (at entries i) 0 z, le-ltb top (at entries i) (omega arith))
       go (no l) (no n) = rw (le-ltb i links (omega arith), le-leb links i (omega arith), lt-ltb 0 (at entries i) (omega arith), ne_eqb (at entries i) 0 n) (sym (or-true (above i)))
 

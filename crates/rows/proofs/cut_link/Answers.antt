@@ -1,7 +1,12 @@
 -- `rows::cut_link` meets its contract: each return rewrites with the tests that led there.
 use mathlib.Core.Path.{◌∙◌}
+use borrow.Author.Rules.{rules}
 use Rattle.rows.specs.Rows.{cut}
 use Rattle.rows.proofs.cut_link.Goals as goal
+
+pub returns-then-after : goal.returns-then-after
+unfolding cut
+returns-then-after c = search rules
 
 pub returns-then-before : goal.returns-then-before
 unfolding cut

@@ -32,14 +32,14 @@ bit-back_done-requires c = (next-node c.loop-ahead.invariant.1 (λ e. omega arit
 pub loop-ahead-smaller : goal.loop-ahead-smaller
 loop-ahead-smaller c =
     let i = c.loop-ahead.invariant.0 in
-    let s = spreading_next i (λ e. omega arith) _ c.bit-ahead_done.ensures _ c.row-ahead.ensures c.row-ahead.type-inv in
+    let s = spreading_next i (λ e. omega arith) _ c.bit-ahead_done.ensures _ c.row-ahead.ensures c.row-ahead.type_inv in
     omega (arith, done_grows i (λ e. omega arith) _ c.bit-ahead_done.ensures, s.done_fits)
 
 pub loop-ahead-preserved : goal.loop-ahead-preserved
 loop-ahead-preserved c =
     let (i, j) = c.loop-ahead.invariant in (
-      spreading_next i (λ e. omega arith) _ c.bit-ahead_done.ensures _ c.row-ahead.ensures c.row-ahead.type-inv,
-      spreading_next j (λ e. omega arith) _ c.bit-back_done.ensures _ c.row-back.ensures c.row-back.type-inv,
+      spreading_next i (λ e. omega arith) _ c.bit-ahead_done.ensures _ c.row-ahead.ensures c.row-ahead.type_inv,
+      spreading_next j (λ e. omega arith) _ c.bit-back_done.ensures _ c.row-back.ensures c.row-back.type_inv,
     )
 
 pub returns : goal.returns

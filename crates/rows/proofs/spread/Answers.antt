@@ -15,11 +15,11 @@ bit-done-requires c = (next-node c.loop-seen.invariant (λ e. omega arith)).belo
 pub loop-seen-smaller : goal.loop-seen-smaller
 loop-seen-smaller c =
     let i = c.loop-seen.invariant in
-    let s = spreading_next i (λ e. omega arith) _ c.bit-done.ensures _ c.row-seen.ensures c.row-seen.type-inv in
+    let s = spreading_next i (λ e. omega arith) _ c.bit-done.ensures _ c.row-seen.ensures c.row-seen.type_inv in
     omega (arith, done_grows i (λ e. omega arith) _ c.bit-done.ensures, s.done_fits)
 
 pub loop-seen-preserved : goal.loop-seen-preserved
-loop-seen-preserved c = spreading_next c.loop-seen.invariant (λ e. omega arith) _ c.bit-done.ensures _ c.row-seen.ensures c.row-seen.type-inv
+loop-seen-preserved c = spreading_next c.loop-seen.invariant (λ e. omega arith) _ c.bit-done.ensures _ c.row-seen.ensures c.row-seen.type_inv
 
 pub returns : goal.returns
 returns c = spread_all c.loop-seen.invariant (omega arith)
