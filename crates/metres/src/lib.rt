@@ -1,4 +1,6 @@
 // The length of links: a number of metres, or not known.
+#![tactic(auto)]
+
 ghost use Rattle.std.specs.Prelude.{◌≡◌, cond};
 
 // 02's route length: a number of metres, or not known, since a link is not measured.
