@@ -1,1 +1,2 @@
 // Theory only: depth-first search of a net, and the walk along its tree.
+#![tactic(auto)]

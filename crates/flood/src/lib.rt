@@ -1,4 +1,5 @@
 // The flood over a digraph after a failure: theory, and the records of its arrays.
+#![tactic(auto)]
 
 // A state per link (0 quiet, 1 offered, 2 taken, 3 refused, 4 released), and which nodes are reached.
 #[derive(Clone, Copy)]

@@ -1,4 +1,6 @@
 // The two wavelengths, and a flood on each of them. The deliveries on both, and what they guarantee, are theory (specs/Merge.antt, specs/Guarantees.antt).
+#![tactic(auto)]
+
 ghost use Rattle.std.specs.Prelude.{◌≡◌};
 ghost use Rattle.wavelengths.specs.Wavelength.{is_wavelength, wavelength_of};
 

@@ -126,6 +126,7 @@ module _ (G : Net) where
     pub met_leads : {k u w : ℕ} {s : List Bool} {T : Tree} {path : List ℕ} → Follows G k u s T → (t : List Bool) → links ≤ length t → Extends (labelled T t) labels
         → Met w u T path → PathLeads labels u w path
     unfolding marked
+    met_leads (done d) t l x m = elim m [ ]
     met_leads (pass k< o p) t l x m = met_leads p t l x m
     met_leads {k} {u} {w} {T = tree.branch _ _ below rest} (take v e k< h f vn v< p q) t l x (now d) = record {
       crossed = out G u k ∷ [];

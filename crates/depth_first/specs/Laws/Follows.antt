@@ -127,6 +127,7 @@ module _ {G : Net} where
   -- a node that is met was new
   pub met_new : {k u w : ℕ} {s : List Bool} {T : Tree} {path : List ℕ} → Follows G k u s T → Met w u T path → New s (visited T s) w
   unfolding marked
+  met_new (done d) m = elim m [ ]
   met_new (pass k< o p) m = met_new p m
   met_new {w} {s} {T = tree.branch _ _ below rest} (take v i k< t f vn v< p q) (now e) =
       let s₁ = set s v true in
@@ -151,6 +152,7 @@ module _ {G : Net} where
   -- so it is met once, and by one path
   pub met_once : {k u w : ℕ} {s : List Bool} {T : Tree} {path other : List ℕ} → Follows G k u s T → Met w u T path → Met w u T other → other ≡ path
   unfolding marked
+  met_once (done d) m n = elim m [ ]
   met_once (pass k< o p) m n = met_once p m n
   met_once (take v i k< t f vn v< p q) (now e) (now d) = refl
   met_once {u} (take v i k< t f vn v< p q) (deeper m) (deeper n) = ap (λ (l : List ℕ). u ∷ l) (met_once p m n)

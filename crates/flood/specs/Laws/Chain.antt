@@ -27,11 +27,15 @@ module _ (g : Digraph) where
   tail_met (link j e c) (Memᴰ.head h) = Memᴰ.head (ap tail h ∙ e)
   tail_met (link j e c) (Memᴰ.tail o) = Memᴰ.tail (tail_met c o)
 
+  -- it ends where it begins, or one of its links starts there
+  begins : {u v : ℕ} {p : List ℕ} → Chain g u p v → (u ≡ v) ⊎ ((m : ℕ) × Memᴰ m p × (tail m ≡ u))
+  begins end = inl refl
+  begins (link k d c) = inr (k, Memᴰ.head refl, d)
+
   -- each of its links leads to its end, or another goes on from there
   pub head_next : {u v : ℕ} {p : List ℕ} → Chain g u p v → {i : ℕ} → Memᴰ i p → (head i ≡ v) ⊎ ((m : ℕ) × Memᴰ m p × (tail m ≡ head i))
   head_next end o = absurd (Memᴰ.not-nil o)
-  head_next (link j e end) (Memᴰ.head h) = inl (ap head h)
-  head_next (link j e (link k d c)) (Memᴰ.head h) = inr (k, Memᴰ.tail (Memᴰ.head refl), d ∙ ap head (sym h))
+  head_next (link j e c) (Memᴰ.head h) = ⊎_elim (λ q. inl (ap head h ∙ q)) (λ z. inr (z.0, Memᴰ.tail z.1, z.2 ∙ ap head (sym h))) (begins c)
   head_next (link j e c) (Memᴰ.tail o) = ⊎_elim (λ h. inl h) (λ z. inr (z.0, Memᴰ.tail z.1, z.2)) (head_next c o)
 
   -- ---- its length
@@ -44,8 +48,7 @@ module _ (g : Digraph) where
   -- and two, where none of its links leads straight from the one to the other
   pub two_links : {u v : ℕ} {p : List ℕ} → Chain g u p v → u ≢ v → ((i : ℕ) → Memᴰ i p → tail i ≡ u → head i ≢ v) → 2 ≤ length p
   two_links end n far = absurd (n refl)
-  two_links (link i e end) n far = absurd (far i (Memᴰ.head refl) e refl)
-  two_links (link i e (link j d c)) n far = omega arith
+  two_links (link i e c) n far = omega (arith, one_link c (far i (Memᴰ.head refl) e))
 
   -- ---- no node or link twice
 

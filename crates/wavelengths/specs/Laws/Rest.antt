@@ -11,7 +11,7 @@ use Rattle.flood.specs.Machine as machine
 use Rattle.wavelengths.specs.declared.Floods.{Floods}
 use Rattle.wavelengths.specs.declared.Wavelength.TheVariants.{First, Second}
 use Rattle.wavelengths.specs.Wavelength.{Wavelength, on, pair}
-use Rattle.wavelengths.specs.Merge.{Ran, links_on, at_rest, play, accepted, order, run}
+use Rattle.wavelengths.specs.Merge.{links_on, at_rest, order, run}
 use Rattle.wavelengths.specs.Laws.Project.{links_all, play-on, accepted_both}
 use Rattle.wavelengths.specs.Laws.Next.{rest_says}
 use Rattle.flood.specs.Laws.Order.{order-length, order-more, order-rest, order_same}
