@@ -1,3 +1,2 @@
 pub mod Survey
 pub mod Meaning
-pub mod Laws

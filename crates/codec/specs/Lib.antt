@@ -1,2 +1,1 @@
 pub mod Book
-pub mod Laws

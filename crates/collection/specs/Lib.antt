@@ -2,4 +2,3 @@ pub mod Collection
 pub mod Meaning
 pub mod Arcs
 pub mod Walked
-pub mod Laws

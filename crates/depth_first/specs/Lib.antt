@@ -2,4 +2,3 @@ pub mod Tree
 pub mod Search
 pub mod Crossings
 pub mod Folded
-pub mod Laws

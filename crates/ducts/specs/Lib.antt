@@ -1,3 +1,2 @@
 pub mod Sharing
 pub mod Meaning
-pub mod Laws

@@ -1,4 +1,3 @@
-pub mod Main
 pub mod Bench
 pub mod DuctBench
 pub mod CollectionBench
@@ -6,4 +5,3 @@ pub mod DrillBench
 pub mod DoubledBench
 pub mod SurveyBench
 pub mod OneCut
-pub mod Laws

@@ -1,3 +1,2 @@
 pub mod Drill
 pub mod Input
-pub mod Laws

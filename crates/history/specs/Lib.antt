@@ -3,4 +3,3 @@ pub mod Rules
 pub mod Log
 pub mod Offered
 pub mod Demand
-pub mod Laws

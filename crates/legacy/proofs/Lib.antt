@@ -1,1 +1,2 @@
 mod Ranges
+pub mod Laws

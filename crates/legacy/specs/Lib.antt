@@ -3,4 +3,3 @@ pub mod WellFormed
 pub mod Calls
 pub mod History
 pub mod Bench
-pub mod Laws

@@ -1,4 +1,2 @@
 pub mod Wavelength
 pub mod Merge
-pub mod Laws
-pub mod Guarantees

@@ -4,7 +4,7 @@ use borrow.Author.Rules.{rules}
 use Rattle.mesh.specs.declared.Plan.{Plan}
 use Rattle.flood.specs.Digraph.{cut}
 use Rattle.wavelengths.specs.declared.Wavelength.TheVariants.{First, Second}
-use Rattle.wavelengths.specs.Laws.Wavelength.{each_known}
+use Rattle.wavelengths.proofs.Laws.Wavelength.{each_known}
 use Rattle.topology.specs.Backup.{backup_on}
 use Rattle.backup.specs.Laws.Arcs.{laid_other, arcs, lost, ended-on}
 use Rattle.backup.proofs.run.Statement.{statement}

@@ -10,7 +10,7 @@ use Rattle.mesh.specs.Laws.Checked.{passes}
 use Rattle.graph.specs.Greedy.{bridge}
 use Rattle.nets.specs.Nets.{net_of}
 use Rattle.nets.specs.Laws.Fits.{fits}
-use Rattle.bridges.specs.Laws.Bridges.{bridge_is}
+use Rattle.bridges.proofs.Laws.Bridges.{bridge_is}
 use Rattle.bridges.proofs.bridges_at.Statement.{statement}
 use Rattle.bridges.proofs.bridges_at.Tie as tie
 

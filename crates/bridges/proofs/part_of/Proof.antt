@@ -5,7 +5,7 @@ use native.Mathlib.Omega.{arith}
 use borrow.Author.Rules.{rules}
 use Rattle.scan.specs.Lowest.{None, none_yet, none_next}
 use Rattle.scan.specs.Bits.{has}
-use Rattle.bridges.specs.Laws.Parts.{part_found, part_none}
+use Rattle.bridges.proofs.Laws.Parts.{part_found, part_none}
 use Rattle.bridges.proofs.part_of.Statement.{statement}
 use Rattle.bridges.proofs.part_of.Tie as tie
 

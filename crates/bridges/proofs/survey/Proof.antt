@@ -8,7 +8,7 @@ use Rattle.graph.specs.Net.{both_ways}
 use Rattle.nets.specs.Nets.{net_of, Table}
 use Rattle.nets.specs.Laws.Fits.{fits}
 use Rattle.nets.specs.Laws.Ways.{rows_ways}
-use Rattle.bridges.specs.Laws.Outcome.{surveyed-refused, surveyed-made}
+use Rattle.bridges.proofs.Laws.Outcome.{surveyed-refused, surveyed-made}
 use Rattle.bridges.proofs.survey.Statement.{statement}
 use Rattle.bridges.proofs.survey.Tie as tie
 

@@ -7,7 +7,7 @@ use borrow.Author.Rules.{rules}
 use Rattle.mesh.specs.declared.Answer.TheVariants.{Accepted}
 use Rattle.mesh.specs.Mesh.{mesh_answer}
 use Rattle.nets.specs.Nets.{net_of, Table}
-use Rattle.bridges.specs.Laws.Ways.{before, before_none, before_skip, before-put, before-all}
+use Rattle.bridges.proofs.Laws.Ways.{before, before_none, before_skip, before-put, before-all}
 use Rattle.bridges.proofs.ways_without.Statement.{statement}
 use Rattle.bridges.proofs.ways_without.Tie as tie
 

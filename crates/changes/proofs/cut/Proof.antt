@@ -7,7 +7,7 @@ use Rattle.flood.specs.Lent.{flood}
 use Rattle.wavelengths.specs.declared.Floods.{Floods}
 use Rattle.wavelengths.specs.Wavelength.{pair}
 use Rattle.wavelengths.specs.Merge.{begin}
-use Rattle.wavelengths.specs.Laws.Project.{begin_known}
+use Rattle.wavelengths.proofs.Laws.Project.{begin_known}
 use Rattle.refusals.specs.Refusals as refusals
 use Rattle.pieces.specs.Pieces.{chosen, digraph, tested}
 use Rattle.pieces.specs.Laws.Tested.{tested_is, given_cut}

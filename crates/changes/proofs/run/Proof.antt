@@ -7,7 +7,7 @@ use Rattle.flood.specs.Lent.{flood}
 use Rattle.wavelengths.specs.declared.Floods.{Floods}
 use Rattle.wavelengths.specs.Wavelength.{pair}
 use Rattle.refusals.specs.Refusals as refusals
-use Rattle.refusals.specs.Laws.Tested.{run-accepted}
+use Rattle.refusals.proofs.Laws.Tested.{run-accepted}
 use Rattle.pieces.specs.Pieces.{tested}
 use Rattle.pieces.specs.Laws.Tested.{tested_is, given_standing}
 use Rattle.changes.proofs.run.Statement.{statement}

@@ -11,10 +11,10 @@ use Rattle.wavelengths.specs.declared.Floods.{Floods}
 use Rattle.wavelengths.specs.declared.Wavelength.{Wavelength}
 use Rattle.wavelengths.specs.Wavelength.{wavelength_of, on, put}
 use Rattle.wavelengths.specs.Merge.{turn, step}
-use Rattle.wavelengths.specs.Laws.Wavelength.{on-put-own, put-own}
+use Rattle.wavelengths.proofs.Laws.Wavelength.{on-put-own, put-own}
 use Rattle.formed.specs.declared.Cut.{Cut}
 use Rattle.refusals.specs.Refusals.{deliver_answer}
-use Rattle.refusals.specs.Laws.Tested.{deliver_accepted}
+use Rattle.refusals.proofs.Laws.Tested.{deliver_accepted}
 use Rattle.pieces.specs.Pieces.{chosen, digraph, lost, tested}
 use Rattle.pieces.specs.Laws.Tested.{Split, given_standing}
 use Rattle.backup.specs.Stepped.{Stepped}

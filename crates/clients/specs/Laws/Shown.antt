@@ -19,10 +19,10 @@ use Rattle.recovery.specs.Laws.Forming.{record_few}
 use Rattle.history.specs.History.{Call, by_value, cut, answers}
 use Rattle.history.specs.Log.{logged, deliveries_on}
 use Rattle.history.specs.Demand.{Demand3, state_on, had_on, started_on, digraph_on, ended, log}
-use Rattle.history.specs.Laws.Recovered.{demand_3}
-use Rattle.history.specs.Laws.Counted.{had-made}
-use Rattle.history.specs.Laws.Undisturbed.{just_cut}
-use Rattle.history.specs.Laws.Unhindered.{cut-run-made, reports_rest}
+use Rattle.history.proofs.Laws.Recovered.{demand_3}
+use Rattle.history.proofs.Laws.Counted.{had-made}
+use Rattle.history.proofs.Laws.Undisturbed.{just_cut}
+use Rattle.history.proofs.Laws.Unhindered.{cut-run-made, reports_rest}
 use Rattle.clients.specs.Sessions.{unhindered, recovered}
 
 -- what the first 256 links have had is what all have had

@@ -1,7 +1,7 @@
 -- `codec::record_answer` meets its contract: it is the answer of the span.
 use mathlib.Core.Path.{◌∙◌, ap}
 use Rattle.codec.specs.declared.locate.Span.{Span}
-use Rattle.codec.specs.Laws.Locate.{span-answer}
+use Rattle.codec.proofs.Laws.Locate.{span-answer}
 use borrow.Author.Rules.{rules}
 use Rattle.codec.proofs.record_answer.Statement.{statement}
 use Rattle.codec.proofs.record_answer.Tie as tie

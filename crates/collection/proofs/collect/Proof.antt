@@ -10,8 +10,8 @@ use Rattle.mesh.specs.declared.Answer.TheVariants.{Accepted}
 use Rattle.mesh.specs.Mesh.{mesh_answer}
 use Rattle.mesh.specs.Laws.Checked.{passes}
 use Rattle.collection.specs.Collection.{route_of}
-use Rattle.collection.specs.Laws.Folded.{most}
-use Rattle.collection.specs.Laws.Collecting.{gives-refused, answer-mesh, answer_root, answer-apart, answer_short, gives_all}
+use Rattle.collection.proofs.Laws.Folded.{most}
+use Rattle.collection.proofs.Laws.Collecting.{gives-refused, answer-mesh, answer_root, answer-apart, answer_short, gives_all}
 use Rattle.collection.proofs.collect.Statement.{statement}
 use Rattle.collection.proofs.collect.Tie as tie
 

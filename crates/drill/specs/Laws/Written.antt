@@ -6,13 +6,13 @@ use Rattle.mesh.specs.declared.Answer.TheVariants.{Refused}
 use Rattle.mesh.specs.Mesh.{mesh_answer}
 use Rattle.codec.specs.declared.Encoded.{Encoded}
 use Rattle.codec.specs.Book.{longest_book, book_of, encoded, output_after}
-use Rattle.codec.specs.Laws.Written.{book_most}
-use Rattle.codec.specs.Laws.Encoding.{encoded_done, encoded-refused}
+use Rattle.codec.proofs.Laws.Written.{book_most}
+use Rattle.codec.proofs.Laws.Encoding.{encoded_done, encoded-refused}
 use Rattle.heaviest.specs.declared.Asked.{Asked}
 use Rattle.heaviest.specs.Drill.{drill, drill_of}
 use Rattle.heaviest.specs.Input.{Names, middles_of, asked}
-use Rattle.heaviest.specs.Laws.Input.{asked-names, refused-names}
-use Rattle.heaviest.specs.Laws.Drill.{drill_of_lem, drill-accepted}
+use Rattle.heaviest.proofs.Laws.Input.{asked-names, refused-names}
+use Rattle.heaviest.proofs.Laws.Drill.{drill_of_lem, drill-accepted}
 use Rattle.drill.specs.Written.{Writes}
 
 -- a book has its header

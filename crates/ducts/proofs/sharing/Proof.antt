@@ -6,7 +6,7 @@ use borrow.Author.Rules.{rules}
 use Rattle.mesh.specs.declared.Answer.TheVariants.{Accepted}
 use Rattle.mesh.specs.Mesh.{mesh_answer}
 use Rattle.mesh.specs.Laws.Checked.{passes}
-use Rattle.ducts.specs.Laws.Asking.{gives-mesh, gives_no_link, gives_short, gives_all}
+use Rattle.ducts.proofs.Laws.Asking.{gives-mesh, gives_no_link, gives_short, gives_all}
 use Rattle.ducts.proofs.sharing.Statement.{statement}
 use Rattle.ducts.proofs.sharing.Tie as tie
 

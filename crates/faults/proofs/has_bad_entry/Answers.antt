@@ -2,7 +2,7 @@
 use mathlib.Core.Path.{ap, ◌∙◌}
 use mathlib.Core.Bool.{◌||◌}
 use lib.Dec.{ltb}
-use Rattle.faults.specs.Laws.Scans.{below_larger, overflows-each}
+use Rattle.faults.proofs.Laws.Scans.{below_larger, overflows-each}
 use Rattle.faults.proofs.has_bad_entry.Goals as goal
 
 pub returns : goal.returns

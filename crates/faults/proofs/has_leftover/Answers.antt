@@ -3,7 +3,7 @@ use mathlib.Core.Path.{sym, ◌∙◌}
 use mathlib.Core.Bool.{false}
 use native.Mathlib.Omega.{arith}
 use Rattle.faults.specs.Faults.{is_used}
-use Rattle.faults.specs.Laws.Scans.{past_none, past_block, past_found, past_all}
+use Rattle.faults.proofs.Laws.Scans.{past_none, past_block, past_found, past_all}
 use Rattle.faults.proofs.has_leftover.Goals as goal
 
 pub loop-i-init : goal.loop-i-init

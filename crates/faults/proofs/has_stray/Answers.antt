@@ -1,7 +1,7 @@
 use Prim.Native.Nat.{◌-◌}
 use mathlib.Core.Path.{◌∙◌}
 use native.Mathlib.Omega.{arith}
-use Rattle.faults.specs.Laws.Scans.{past_none, past-turn, past_all, strays-either}
+use Rattle.faults.proofs.Laws.Scans.{past_none, past-turn, past_all, strays-either}
 use Rattle.faults.proofs.has_stray.Goals as goal
 
 pub loop-v-init : goal.loop-v-init

@@ -1,7 +1,7 @@
 use Prim.Native.Nat.{◌-◌}
 use mathlib.Core.Path.{◌∙◌}
 use native.Mathlib.Omega.{arith}
-use Rattle.faults.specs.Laws.Scans.{or-nonzero, past_none, past-turn, past_all}
+use Rattle.faults.proofs.Laws.Scans.{or-nonzero, past_none, past-turn, past_all}
 use Rattle.faults.proofs.is_tail_used.Goals as goal
 
 pub loop-i-init : goal.loop-i-init

@@ -4,7 +4,7 @@ use native.Mathlib.Omega.{arith}
 use lib.Dec.{ltb}
 use borrow.Author.Tests.{le-ltb}
 use Rattle.scan.specs.Lowest.{any, any-zero, any-turn}
-use Rattle.faults.specs.Laws.Scans.{below_larger}
+use Rattle.faults.proofs.Laws.Scans.{below_larger}
 use Rattle.faults.proofs.largest.Goals as goal
 
 pub loop-i-init : goal.loop-i-init

@@ -19,8 +19,8 @@ use Rattle.wavelengths.specs.declared.Wavelength.TheVariants.{First, Second}
 use Rattle.wavelengths.specs.Wavelength.{each, put, pair}
 use Rattle.wavelengths.specs.Merge as merge
 use Rattle.wavelengths.specs.Merge.{Turn, turn, Ran, at_rest, next, run}
-use Rattle.wavelengths.specs.Laws.Next.{either, next-first, next_second}
-use Rattle.wavelengths.specs.Laws.Run.{run_stop, run_step}
+use Rattle.wavelengths.proofs.Laws.Next.{either, next-first, next_second}
+use Rattle.wavelengths.proofs.Laws.Run.{run_stop, run_step}
 use Rattle.searches.specs.Laws.Loops.{lowest_onward}
 use Rattle.delivery.specs.Moved.{Moved}
 use Rattle.flooding.specs.Ended.{Ended, Turned}

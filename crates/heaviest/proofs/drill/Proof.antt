@@ -5,7 +5,7 @@ use mathlib.Core.Bool.{true}
 use native.Mathlib.Omega.{arith}
 use borrow.Author.Rules.{rules}
 use Rattle.heaviest.specs.Drill.{is_size, drill_of}
-use Rattle.heaviest.specs.Laws.Tests.{size_says}
+use Rattle.heaviest.proofs.Laws.Tests.{size_says}
 use Rattle.heaviest.proofs.drill.Statement.{statement}
 use Rattle.heaviest.proofs.drill.Tie as tie
 

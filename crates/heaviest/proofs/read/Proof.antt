@@ -10,7 +10,7 @@ use borrow.Author.Rules.{rules}
 use Rattle.heaviest.specs.declared.Asked.TheVariants.{Middles, Refused}
 use Rattle.heaviest.specs.Drill.{is_size}
 use Rattle.heaviest.specs.Input.{until_feed, value_of, asked}
-use Rattle.heaviest.specs.Laws.Tests.{feed_within}
+use Rattle.heaviest.proofs.Laws.Tests.{feed_within}
 use Rattle.heaviest.proofs.read.Statement.{statement}
 use Rattle.heaviest.proofs.read.Tie as tie
 

@@ -16,7 +16,7 @@ use Rattle.formed.specs.Pieces.{record_after}
 use Rattle.formed.specs.Laws.Forming.{record_mesh, record_cut}
 use Rattle.formed.specs.Laws.Pieces.{record_pieces}
 use Rattle.refusals.specs.Refusals.{standing, cut_answer}
-use Rattle.refusals.specs.Laws.Tested.{cut-accepted}
+use Rattle.refusals.proofs.Laws.Tested.{cut-accepted}
 use Rattle.pieces.specs.Given.{Given}
 use Rattle.pieces.specs.Pieces.{tested}
 

@@ -5,7 +5,7 @@ use borrow.Author.Rules.{rules}
 use Rattle.flood.specs.Lent.{flood}
 use Rattle.wavelengths.specs.Wavelength.{pair}
 use Rattle.refusals.specs.Refusals as refusals
-use Rattle.queries.specs.Laws.Counts.{mend_counted}
+use Rattle.queries.proofs.Laws.Counts.{mend_counted}
 use Rattle.pieces.specs.Laws.Tested.{tested_is}
 use Rattle.queries.proofs.mend_answer.Statement.{statement}
 use Rattle.queries.proofs.mend_answer.Tie as tie

@@ -17,7 +17,7 @@ use Rattle.wavelengths.specs.Wavelength.{wavelength_of, on, pair}
 use Rattle.formed.specs.Formed.{cut_link}
 use Rattle.formed.specs.Laws.Forming.{record_few}
 use Rattle.refusals.specs.Refusals as refusals
-use Rattle.refusals.specs.Laws.Tested.{route_accepted}
+use Rattle.refusals.proofs.Laws.Tested.{route_accepted}
 use Rattle.pieces.specs.Pieces.{chosen, digraph, tested}
 use Rattle.pieces.specs.Given.{Given}
 use Rattle.pieces.specs.Laws.Tested.{Split, tested_is, given_standing}

@@ -8,7 +8,7 @@ use Rattle.flood.specs.Machine.{under_way, accepts}
 use Rattle.wavelengths.specs.Wavelength.{is_wavelength, wavelength_of, on}
 use Rattle.refusals.specs.Refusals as refusals
 use Rattle.refusals.specs.Refusals.{standing}
-use Rattle.refusals.specs.Laws.Tested as pieces
+use Rattle.refusals.proofs.Laws.Tested as pieces
 use Rattle.recovery.specs.declared.Session.{Session}
 use Rattle.recovery.specs.Session.{floods}
 use Rattle.recovery.specs.Formed.{record_answer}

@@ -4,7 +4,7 @@ use borrow.Author.Tests.{not-true, not-false}
 use borrow.Author.Rules.{rules}
 use Rattle.mesh.specs.declared.Answer.TheVariants.{Accepted}
 use Rattle.refusals.specs.Refusals.{status_answer, deliver_answer}
-use Rattle.refusals.specs.Laws.Tested.{status_first}
+use Rattle.refusals.proofs.Laws.Tested.{status_first}
 use Rattle.refusals.proofs.deliver_answer.Statement.{statement}
 use Rattle.refusals.proofs.deliver_answer.Tie as tie
 

@@ -4,7 +4,7 @@ use borrow.Author.Tests.{not-true, not-false}
 use borrow.Author.Rules.{rules}
 use Rattle.mesh.specs.declared.Answer.TheVariants.{Accepted}
 use Rattle.refusals.specs.Refusals.{link_answer, mend_answer}
-use Rattle.refusals.specs.Laws.Tested.{link-first}
+use Rattle.refusals.proofs.Laws.Tested.{link-first}
 use Rattle.refusals.proofs.mend_answer.Statement.{statement}
 use Rattle.refusals.proofs.mend_answer.Tie as tie
 

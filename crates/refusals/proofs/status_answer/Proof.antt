@@ -3,7 +3,7 @@ use mathlib.Core.Path.{◌≡◌, sym, ◌∙◌}
 use borrow.Author.Rules.{rules}
 use Rattle.mesh.specs.declared.Answer.TheVariants.{Accepted}
 use Rattle.refusals.specs.Refusals.{link_answer, status_answer}
-use Rattle.refusals.specs.Laws.Tested.{link-first}
+use Rattle.refusals.proofs.Laws.Tested.{link-first}
 use Rattle.refusals.proofs.status_answer.Statement.{statement}
 use Rattle.refusals.proofs.status_answer.Tie as tie
 

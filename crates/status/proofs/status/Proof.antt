@@ -19,17 +19,17 @@ use Rattle.flood.specs.Topology.{under_way_of}
 use Rattle.wavelengths.specs.declared.Floods.{Floods}
 use Rattle.wavelengths.specs.Wavelength.{each, wavelength_of, on, pair}
 use Rattle.wavelengths.specs.Merge.{at_rest}
-use Rattle.wavelengths.specs.Laws.Wavelength.{each_on}
+use Rattle.wavelengths.proofs.Laws.Wavelength.{each_on}
 use Rattle.formed.specs.Laws.Forming.{record_few}
 use Rattle.refusals.specs.Refusals as refusals
 use Rattle.refusals.specs.Refusals.{standing}
-use Rattle.refusals.specs.Laws.Tested.{status_accepted}
+use Rattle.refusals.proofs.Laws.Tested.{status_accepted}
 use Rattle.pieces.specs.Pieces.{digraph, tested}
 use Rattle.pieces.specs.Laws.Tested.{tested_is}
 use Rattle.status.specs.declared.Told.{Told}
 use Rattle.status.specs.Counts.{links_by}
 use Rattle.status.specs.Status.{zero_told}
-use Rattle.status.specs.Laws.Counts.{length_counted}
+use Rattle.status.proofs.Laws.Counts.{length_counted}
 use Rattle.status.proofs.status.Statement.{statement}
 use Rattle.status.proofs.status.Tie as tie
 

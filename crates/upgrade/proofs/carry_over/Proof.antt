@@ -7,7 +7,7 @@ use Rattle.recovery.specs.Calls.{started}
 use Rattle.recovery.specs.Laws.Calls.{change_stops, change_goes}
 use Rattle.legacy.specs.declared.OldSession.{OldSession}
 use Rattle.upgrade.specs.Carried.{mesh_of, plan_of, with_first, cut_again, carried}
-use Rattle.upgrade.specs.Laws.Carried.{carried_again}
+use Rattle.upgrade.proofs.Laws.Carried.{carried_again}
 use Rattle.upgrade.proofs.carry_over.Statement.{statement}
 use Rattle.upgrade.proofs.carry_over.Tie as tie
 

@@ -3,7 +3,7 @@ use mathlib.Core.Path.{◌≡◌, sym, ◌∙◌, ap}
 use lib.ListN.{length, take}
 use Rattle.codec.specs.declared.Encoded.{Encoded}
 use Rattle.codec.specs.Book.{encoded, output_after, decoded}
-use Rattle.codec.specs.Laws.Written.{decoded_output}
+use Rattle.codec.proofs.Laws.Written.{decoded_output}
 use borrow.Author.Rules.{rules}
 use Rattle.clients.proofs.book.reread.Statement.{statement}
 use Rattle.clients.proofs.book.reread.Tie as tie

@@ -4,7 +4,7 @@ use native.Mathlib.Omega.{arith}
 use Rattle.scan.specs.Bytes.{AreBytes}
 use Rattle.codec.specs.declared.Decoded.{Decoded}
 use Rattle.codec.specs.Book.{output_after}
-use Rattle.codec.specs.Laws.Read.{output_decoded}
+use Rattle.codec.proofs.Laws.Read.{output_decoded}
 use borrow.Author.Rules.{rules}
 use Rattle.clients.proofs.book.rewrite.Statement.{statement}
 use Rattle.clients.proofs.book.rewrite.Tie as tie

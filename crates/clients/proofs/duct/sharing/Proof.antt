@@ -9,7 +9,7 @@ use Rattle.mesh.specs.declared.Answer.TheVariants.{Accepted}
 use Rattle.ducts.specs.declared.Shared.{Shared}
 use Rattle.ducts.specs.Sharing.{shared, output_after}
 use Rattle.ducts.specs.Meaning.{Lists}
-use Rattle.ducts.specs.Laws.Query.{accepted_lists}
+use Rattle.ducts.proofs.Laws.Query.{accepted_lists}
 use Rattle.clients.proofs.duct.sharing.Statement.{statement}
 use Rattle.clients.proofs.duct.sharing.Tie as tie
 

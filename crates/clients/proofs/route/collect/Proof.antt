@@ -12,7 +12,7 @@ use Rattle.nets.specs.Nets.{net_of}
 use Rattle.depth_first.specs.Folded.{Folded}
 use Rattle.collection.specs.declared.Collected.{Collected}
 use Rattle.collection.specs.Collection.{tree_of, collected, output_after}
-use Rattle.collection.specs.Laws.Query.{accepted_collects}
+use Rattle.collection.proofs.Laws.Query.{accepted_collects}
 use Rattle.clients.proofs.route.collect.Statement.{statement}
 use Rattle.clients.proofs.route.collect.Tie as tie
 

@@ -5,8 +5,8 @@ use Rattle.scan.specs.Bytes.{number}
 use Rattle.mesh.specs.declared.Answer.TheVariants.{Accepted}
 use Rattle.codec.specs.declared.Decoded.{Decoded}
 use Rattle.codec.specs.Book.{book_answer, span_answer}
-use Rattle.codec.specs.Laws.Accepted.{decoded-answer}
-use Rattle.codec.specs.Laws.Locate.{decoded-count, span-unread, span_none, span-some, span-refused, span_found}
+use Rattle.codec.proofs.Laws.Accepted.{decoded-answer}
+use Rattle.codec.proofs.Laws.Locate.{decoded-count, span-unread, span_none, span-some, span-refused, span_found}
 use borrow.Author.Rules.{rules}
 use Rattle.codec.proofs.locate.find_record.Statement.{statement}
 use Rattle.codec.proofs.locate.find_record.Tie as tie

@@ -6,7 +6,7 @@ use Prim.Native.Nat.{◌+◌, ◌-◌, ◌≤◌, ◌<◌}
 use lib.ListN.{length, get_or}
 use Rattle.fields.specs.Record.{record_length}
 use Rattle.codec.specs.Book.{record_start}
-use Rattle.codec.specs.Laws.Locate.{start_first, start-step, start_within}
+use Rattle.codec.proofs.Laws.Locate.{start_first, start-step, start_within}
 use Rattle.codec.proofs.locate.record_start.Statement.{statement}
 use Rattle.codec.proofs.locate.record_start.Tie as tie
 

@@ -21,7 +21,7 @@ use Rattle.reader.specs.Laws.Read.{read_answer_lem, read_link, read_duct, read_l
 use Rattle.reader.specs.Laws.Header.{header_accepted}
 use Rattle.reader.specs.Read.{header_answer}
 use Rattle.scan.specs.Bytes.{number}
-use Rattle.codec.specs.Laws.Reading.{Reading, Going, header_good, header_some, reading_start, reading_within, reading_turn, decoded_is, going_over, going_mesh, going_refused}
+use Rattle.codec.proofs.Laws.Reading.{Reading, Going, header_good, header_some, reading_start, reading_within, reading_turn, decoded_is, going_over, going_mesh, going_refused}
 use Rattle.codec.specs.Book.{book_answer, mesh_of}
 use Rattle.codec.proofs.records.read_records.Statement.{statement}
 use Rattle.codec.proofs.records.read_records.Tie as tie

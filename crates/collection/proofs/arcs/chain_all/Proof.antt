@@ -3,7 +3,7 @@ use native.Mathlib.Omega.{arith}
 use borrow.Author.Rules.{rules}
 use Rattle.scan.specs.Part.{length_mapped}
 use Rattle.mesh.specs.Laws.Checked.{well_formed}
-use Rattle.collection.specs.Laws.Arcs.{Chaining, chaining_start, chaining_fits, chaining_turn, chaining_all}
+use Rattle.collection.proofs.Laws.Arcs.{Chaining, chaining_start, chaining_fits, chaining_turn, chaining_all}
 use Rattle.collection.proofs.arcs.chain_all.Statement.{statement}
 use Rattle.collection.proofs.arcs.chain_all.Tie as tie
 

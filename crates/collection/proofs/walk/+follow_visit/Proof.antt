@@ -8,7 +8,7 @@ use borrow.Fn.Kinds.{In}
 use borrow.Fn.PlainCycle.{Measures, is, falls, and}
 use Rattle.depth_first.specs.Search.{visiting, following}
 use Rattle.collection.specs.Arcs.{net_of_arcs}
-use Rattle.collection.specs.Laws.Steps.{
+use Rattle.collection.proofs.Laws.Steps.{
   visit_room,
   visit_can_follow,
   visit_falls,

@@ -5,7 +5,7 @@ use borrow.Author.Rules.{rules}
 use borrow.Author.Tests.{not-true, not-false}
 use Rattle.collection.specs.Arcs.{net_of_arcs}
 use Rattle.collection.specs.Walked.{Passed}
-use Rattle.collection.specs.Laws.Chain.{head_below, next-later, passed_none, passed_more, passed_hit, passed_all}
+use Rattle.collection.proofs.Laws.Chain.{head_below, next-later, passed_none, passed_more, passed_hit, passed_all}
 use Rattle.collection.proofs.walk.next_new.Statement.{statement}
 use Rattle.collection.proofs.walk.next_new.Tie as tie
 

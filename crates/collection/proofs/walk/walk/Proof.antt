@@ -1,6 +1,6 @@
 -- `walk::walk` meets its contract: its tables hold the arcs of the mesh, and no node is visited as the visit of the root begins.
 use borrow.Author.Rules.{rules}
-use Rattle.collection.specs.Laws.Walk.{walk_can_visit, walked_from}
+use Rattle.collection.proofs.Laws.Walk.{walk_can_visit, walked_from}
 use Rattle.collection.proofs.walk.walk.Statement.{statement}
 use Rattle.collection.proofs.walk.walk.Tie as tie
 

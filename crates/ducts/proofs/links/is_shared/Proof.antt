@@ -1,7 +1,7 @@
 -- `ducts::links::is_shared` meets its contract: its three ways out are the test's parts in their order.
 use borrow.Author.Rules.{rules}
 use Rattle.scan.specs.Entry.{at}
-use Rattle.ducts.specs.Laws.Asking.{shares_itself, shares_none, shares-duct}
+use Rattle.ducts.proofs.Laws.Asking.{shares_itself, shares_none, shares-duct}
 use Rattle.ducts.proofs.links.is_shared.Statement.{statement}
 use Rattle.ducts.proofs.links.is_shared.Tie as tie
 

@@ -3,7 +3,7 @@ use mathlib.Core.Path.{◌≡◌, sym, ◌∙◌}
 use mathlib.Core.Bool.{true}
 use borrow.Author.Rules.{rules}
 use Rattle.heaviest.specs.Input.{is_digit}
-use Rattle.heaviest.specs.Laws.Tests.{digit_says}
+use Rattle.heaviest.proofs.Laws.Tests.{digit_says}
 use Rattle.heaviest.proofs.digits.one_digit.Statement.{statement}
 use Rattle.heaviest.proofs.digits.one_digit.Tie as tie
 

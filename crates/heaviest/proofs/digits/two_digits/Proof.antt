@@ -6,7 +6,7 @@ use native.Mathlib.Omega.{arith}
 use borrow.Author.Rules.{rules}
 use borrow.Author.Tests.{not-true, not-false, eq-eqb, ne_eqb}
 use Rattle.heaviest.specs.Input.{is_digit}
-use Rattle.heaviest.specs.Laws.Tests.{digit_says}
+use Rattle.heaviest.proofs.Laws.Tests.{digit_says}
 use Rattle.heaviest.proofs.digits.two_digits.Statement.{statement}
 use Rattle.heaviest.proofs.digits.two_digits.Tie as tie
 

@@ -2,7 +2,7 @@
 use mathlib.Core.Path.{sym}
 use borrow.Author.Rules.{rules}
 use borrow.Author.Tests.{eq-eqb, ne_eqb}
-use Rattle.heaviest.specs.Laws.Tests.{feed_none}
+use Rattle.heaviest.proofs.Laws.Tests.{feed_none}
 use Rattle.heaviest.proofs.digits.until_feed.Statement.{statement}
 use Rattle.heaviest.proofs.digits.until_feed.Tie as tie
 

@@ -3,7 +3,7 @@ use Prim.Native.Nat.{◌-◌, ◌<◌, ◌≤◌}
 use mathlib.Core.Path.{◌≡◌, sym}
 use native.Mathlib.Omega.{arith}
 use borrow.Author.Rules.{rules}
-use Rattle.heaviest.specs.Laws.Spans.{stored, stored_none, stored_next, stored-all}
+use Rattle.heaviest.proofs.Laws.Spans.{stored, stored_none, stored_next, stored-all}
 use Rattle.heaviest.proofs.spans.spans.Statement.{statement}
 use Rattle.heaviest.proofs.spans.spans.Tie as tie
 
