@@ -1,8 +1,7 @@
-use Prim.Native.Nat.{◌+◌, ◌-◌}
+use Prim.Native.Nat.{◌+◌}
 use mathlib.Core.Path.{sym, ◌∙◌}
 use mathlib.Core.Bool.{false}
 use native.Mathlib.Omega.{arith}
-use Rattle.faults.specs.Faults.{is_used}
 use Rattle.faults.proofs.Laws.Scans.{past_none, past_block, past_found, past_all}
 use Rattle.faults.proofs.has_leftover.Goals as goal
 
@@ -10,7 +9,7 @@ pub loop-i-init : goal.loop-i-init
 loop-i-init c = (omega arith, past_none c.args.links 256 _)
 
 pub returns-then-is_used : goal.returns-then-is_used
-returns-then-is_used c =     past_found _ 256 _ c.lower.result 64 (omega arith) (omega arith) (sym c.if-is_used.true ∙ c.is_used.ensures)
+returns-then-is_used c = past_found _ 256 _ c.lower.result 64 (omega arith) (omega arith) (sym c.if-is_used.true ∙ c.is_used.ensures)
 
 pub loop-i-preserved : goal.loop-i-preserved
 loop-i-preserved c =

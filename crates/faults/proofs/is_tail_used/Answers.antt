@@ -1,4 +1,3 @@
-use Prim.Native.Nat.{◌-◌}
 use mathlib.Core.Path.{◌∙◌}
 use native.Mathlib.Omega.{arith}
 use Rattle.faults.proofs.Laws.Scans.{or-nonzero, past_none, past-turn, past_all}

@@ -1,7 +1,6 @@
-use Prim.Native.Nat.{◌-◌}
 use mathlib.Core.Path.{◌≡◌, refl}
 use native.Mathlib.Omega.{arith}
-use Rattle.scan.specs.Lowest.{any, any-zero, any-turn}
+use Rattle.scan.specs.Lowest.{any-zero, any-turn}
 use Rattle.faults.proofs.Laws.Scans.{or-nonzero}
 use Rattle.faults.proofs.is_used.Goals as goal
 

@@ -1,9 +1,7 @@
-use Prim.Native.Nat.{◌-◌}
 use mathlib.Core.Path.{◌≡◌, refl, ◌∙◌}
 use native.Mathlib.Omega.{arith}
-use lib.Dec.{ltb}
 use borrow.Author.Tests.{le-ltb}
-use Rattle.scan.specs.Lowest.{any, any-zero, any-turn}
+use Rattle.scan.specs.Lowest.{any-zero, any-turn}
 use Rattle.faults.proofs.Laws.Scans.{below_larger}
 use Rattle.faults.proofs.largest.Goals as goal
 

@@ -4,6 +4,7 @@ use Rattle.mesh.proofs.check.Goals as goal
 
 pub returns : goal.returns
 returns c =
-    let s = c.split-zeros.ensures in
-    let m = c.args.m in
-    (split_answer m s.1.1 s.0 s.1.0 c.parts_answer.ensures, s.1.1)
+    let m = c.args.m in record {
+      answer = split_answer m c.split-zeros.ensures.ranges c.split-zeros.ensures.rest c.split-zeros.ensures.ends c.parts_answer.ensures;
+      ranges = c.split-zeros.ensures.ranges;
+    }

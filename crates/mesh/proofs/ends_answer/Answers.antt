@@ -7,12 +7,6 @@ use borrow.Author.Tests.{lt-ltb, le-ltb}
 use Rattle.mesh.specs.Mesh.{ends_answer}
 use Rattle.mesh.proofs.ends_answer.Goals as goal
 
--- the ends are nodes
-inside : (c : goal.Else-n-high) → let a = c.args in (ltb a.low a.high ≡ true) × (ltb a.low a.nodes ≡ true) × (ltb a.high a.nodes ≡ true)
-inside c =
-    let a = c.args in
-    (lt-ltb a.low a.high (omega arith), lt-ltb a.low a.nodes (omega arith), lt-ltb a.high a.nodes (omega arith))
-
 pub returns-then-high-low : goal.returns-then-high-low
 unfolding ends_answer
 returns-then-high-low c = simp (le-ltb _ _ c.if-high-low.true)
@@ -30,11 +24,13 @@ returns-then-n-high c =
 pub returns-then-follows : goal.returns-then-follows
 unfolding ends_answer
 returns-then-follows c =
-    let i = inside c.before.before.before.before in
+    let i = (let in-inside : let a = c.args in (ltb a.low a.high ≡ true) × (ltb a.low a.nodes ≡ true) × (ltb a.high a.nodes ≡ true) = let a = c.args in
+    (lt-ltb a.low a.high (omega arith), lt-ltb a.low a.nodes (omega arith), lt-ltb a.high a.nodes (omega arith)) in in-inside) in
     simp (i.0, i.1, i.2, sym c.follows.ensures ∙ c.if-follows.true)
 
 pub returns : goal.returns
 unfolding ends_answer
 returns c =
-    let i = inside c.before.before.before.before in
+    let i = (let in-inside : let a = c.args in (ltb a.low a.high ≡ true) × (ltb a.low a.nodes ≡ true) × (ltb a.high a.nodes ≡ true) = let a = c.args in
+    (lt-ltb a.low a.high (omega arith), lt-ltb a.low a.nodes (omega arith), lt-ltb a.high a.nodes (omega arith)) in in-inside) in
     simp (i.0, i.1, i.2, sym c.follows.ensures ∙ c.if-follows.false)

@@ -25,20 +25,17 @@ ends_in_turn-a-requires c = leb-true _ _ (both-fit c).1
 pub returns-in_default : goal.returns-in_default
 unfolding parts_answer
 returns-in_default c =
-    let t = c.enum_told-in_default-1.given in
-    let (nodes, count) = both-fit c.before.before.before in
-    simp (nodes, count, sym c.ends_in_turn-a.ensures ∙ t.1) t.1
+    let (nodes, count) = both-fit c.before.before in
+    simp (nodes, count, sym c.ends_in_turn-a.ensures ∙ c.in_default.is) c.in_default.is
 
 pub returns-then-zeros : goal.returns-then-zeros
 unfolding parts_answer
 returns-then-zeros c =
-    let t = c.enum_told-1.given in
-    let (nodes, count) = both-fit c.before.before.before.before in
-    simp (nodes, count, sym c.ends_in_turn-a.ensures ∙ t.1, c.if-zeros.true)
+    let (nodes, count) = both-fit c.before.before.before in
+    simp (nodes, count, sym c.ends_in_turn-a.ensures ∙ c.in-Accepted.is, c.if-zeros.true)
 
 pub returns : goal.returns
 unfolding parts_answer
 returns c =
-    let t = c.enum_told-1.given in
-    let (nodes, count) = both-fit c.before.before.before.before in
-    simp (nodes, count, sym c.ends_in_turn-a.ensures ∙ t.1, c.if-zeros.false)
+    let (nodes, count) = both-fit c.before.before.before in
+    simp (nodes, count, sym c.ends_in_turn-a.ensures ∙ c.in-Accepted.is, c.if-zeros.false)

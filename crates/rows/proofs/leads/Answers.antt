@@ -1,4 +1,3 @@
-use Prim.Native.Nat.{◌-◌}
 use native.Mathlib.Omega.{arith}
 use Rattle.rows.specs.Laws.Spreading.{spreading_start, next-node, done_grows, spreading_next}
 use Rattle.rows.specs.Laws.Meeting.{met, ahead_ended, back-ended}

@@ -1,4 +1,3 @@
-use Prim.Native.Nat.{◌-◌}
 use native.Mathlib.Omega.{arith}
 use Rattle.rows.specs.Laws.Spreading.{spreading_start, spread_all, next-node, done_grows, spreading_next}
 use Rattle.rows.proofs.spread.Goals as goal

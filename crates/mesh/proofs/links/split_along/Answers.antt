@@ -1,4 +1,4 @@
-use Prim.Native.Nat.{ℕ, ◌-◌, min}
+use Prim.Native.Nat.{ℕ, min}
 use mathlib.Core.Path.{◌≡◌, refl, sym, ap, ◌∙◌}
 use mathlib.Core.Bool.{true}
 use native.Mathlib.Omega.{arith}
@@ -19,13 +19,6 @@ use Rattle.mesh.specs.Laws.Lengths.{lengths_most}
 use Rattle.mesh.proofs.Ranges.{entries_are, numbers-are, in_range}
 use Rattle.mesh.proofs.links.split_along.Goals as goal
 
--- where the function began, from the third loop and from the fourth
-abbrev from3 : goal.At-loop-j → goal.Start
-from3 l = l.before.before.before.before.before.before.before.before.before
-
-abbrev from4 : goal.At-loop-k → goal.Start
-from4 l = l.before.before.before.before.before.before.before.before.before.before.before.before
-
 pub loop-i-init : goal.loop-i-init
 loop-i-init c = (omega arith, sym (sweep_none _ c.args.ends.now))
 
@@ -37,7 +30,7 @@ loop-i-preserved c =
 
 pub loop-i-2-init : goal.loop-i-2-init
 loop-i-2-init c =
-    let a = c.args.t1 in
+    let a = c.args.m in
     let sized = entries_are a _ c.well_formed.0 in (
       omega arith,
       ap all_zero (drop_min a.links a.count c.loop-i.i (omega arith))
@@ -46,21 +39,21 @@ loop-i-2-init c =
 
 pub loop-i-2-preserved : goal.loop-i-2-preserved
 loop-i-2-preserved c =
-    let a = c.args.t1 in
+    let a = c.args.m in
     let lo = c.loop-i-2 in
     let sized = entries_are a _ c.well_formed.0 in
     (omega arith, joined-turn is_zero a.links a.count zero_link lo.i lo.bits c.bits_of-bits.result lo.invariant.1 (omega arith) c.bits_of-bits.ensures)
 
 pub loop-j-init : goal.loop-j-init
 loop-j-init c =
-    let a = c.args.t1 in
+    let a = c.args.m in
     (omega arith, joined_none (λ d. eqb d 0) a.ducts a.count c.lower-links.result (omega (arith, c.lower-links.ensures, numbers-are a _ c.well_formed.0)))
 
 pub loop-j-preserved : goal.loop-j-preserved
 loop-j-preserved c =
-    let a = c.args.t1 in
+    let a = c.args.m in
     let lo = c.loop-j in
-    let sized = numbers-are a _ c.ranges.0 in
+    let sized = numbers-are a _ c.well_formed.0 in
     (omega arith, joined-turn (λ d. eqb d 0) a.ducts a.count 0 lo.j lo.ducts (at a.ducts lo.j) lo.invariant.1 (omega arith) refl)
 
 pub loop-k-init : goal.loop-k-init
@@ -68,8 +61,8 @@ loop-k-init c = (omega arith, summed_none _)
 
 pub overflow_add-metres : goal.overflow_add-metres
 overflow_add-metres c =
-    let r = in_range c.args.t1 _ c.ranges.0 in
-    let most = lengths_most c.args.t1 r c.args.row.now c.loop-k.k in
+    let r = in_range c.args.m _ c.well_formed.0 in
+    let most = lengths_most c.args.m r c.args.row.now c.loop-k.k in
     let here = (r.links c.entry_of.result).length in
     let least = c.lower-listed.ensures in
     omega arith
@@ -77,23 +70,19 @@ overflow_add-metres c =
 pub loop-k-preserved : goal.loop-k-preserved
 loop-k-preserved c =
     let a = c.args in
-    (omega arith, summed_turn (λ j. lengths a.t1 (at a.row.now j)) c.loop-k.k c.loop-k.metres _ c.loop-k.unmeasured c.loop-k.invariant.1 (ap (lengths a.t1) c.entry_of.ensures.0))
+    (omega arith, summed_turn (λ j. lengths a.m (at a.row.now j)) c.loop-k.k c.loop-k.metres _ c.loop-k.unmeasured c.loop-k.invariant.1 (ap (lengths a.m) c.entry_of.ensures.value))
 
 pub returns : goal.returns
 returns c =
     let a = c.args in
-    let sized = entries_are a.t1 _ c.ranges.0 in
-    let all : c.loop-i.i ≡ min a.t1.count 256 = omega arith in
-    let every : c.loop-k.k ≡ min a.n 256 = omega (arith, c.lower-listed.ensures) in (
-      rest-joined a.t1 c.loop-i-2.i c.loop-i-2.bits c.loop-j.j c.loop-j.ducts c.loop-i-2.invariant.1 (omega arith) c.loop-j.invariant.1
-          (omega (arith, numbers-are a.t1 _ c.ranges.0)),
-      (
-        c.loop-i.invariant.1 ∙ ap (λ (n : ℕ). filled (λ j. ends_of (link a.t1 j)) n a.ends.now) all,
-        (
-          c.length_of-length.ensures
-              ∙ summed_all (λ j. lengths a.t1 (at a.row.now j)) c.loop-k.k c.loop-k.metres c.loop-k.unmeasured c.loop-k.invariant.1
-              ∙ ap (length_of (λ j. lengths a.t1 (at a.row.now j)) (λ j. true)) every,
-          in_range a.t1 _ c.ranges.0,
-        ),
-      ),
-    )
+    let sized = entries_are a.m _ c.well_formed.0 in
+    let all : c.loop-i.i ≡ min a.m.count 256 = omega arith in
+    let every : c.loop-k.k ≡ min a.n 256 = omega (arith, c.lower-listed.ensures) in record {
+      rest = rest-joined a.m c.loop-i-2.i c.loop-i-2.bits c.loop-j.j c.loop-j.ducts c.loop-i-2.invariant.1 (omega arith) c.loop-j.invariant.1
+          (omega (arith, numbers-are a.m _ c.well_formed.0));
+      ends = c.loop-i.invariant.1 ∙ ap (λ (n : ℕ). filled (λ j. ends_of (link a.m j)) n a.ends.now) all;
+      length = c.length_of-length.ensures
+          ∙ summed_all (λ j. lengths a.m (at a.row.now j)) c.loop-k.k c.loop-k.metres c.loop-k.unmeasured c.loop-k.invariant.1
+          ∙ ap (length_of (λ j. lengths a.m (at a.row.now j)) (λ j. true)) every;
+      ranges = in_range a.m _ c.well_formed.0;
+    }

@@ -14,10 +14,10 @@ use Rattle.mesh.specs.Parts.{ends_of}
 use Rattle.mesh.proofs.links.split_along.Given as goal
 
 abbrev pub invariant-loop-i : goal.invariant-loop-i
-invariant-loop-i l = (l.i ≤ l.initial.ends) × (l.ends ≡ filled (λ j. ends_of (link l.links j)) l.i l.row)
+invariant-loop-i l = (l.i ≤ l.links) × (l.ends ≡ filled (λ j. ends_of (link l.m j)) l.i l.initial.ends)
 
 abbrev pub decreases-loop-i : goal.decreases-loop-i
-decreases-loop-i l = l.initial.ends - l.i
+decreases-loop-i l = l.links - l.i
 
 abbrev pub invariant-loop-i-2 : goal.invariant-loop-i-2
 invariant-loop-i-2 l = (l.i ≤ 256) × Joined is_zero l.m.links l.m.count l.i l.bits
@@ -32,7 +32,7 @@ abbrev pub decreases-loop-j : goal.decreases-loop-j
 decreases-loop-j l = 256 - l.j
 
 abbrev pub invariant-loop-k : goal.invariant-loop-k
-invariant-loop-k l = (l.k ≤ l.listed) × Summed (λ l.j. lengths l.m (at l.row l.j)) l.k l.metres l.unmeasured
+invariant-loop-k l = (l.k ≤ l.listed) × Summed (λ j'. lengths l.m (at l.row j')) l.k l.metres l.unmeasured
 
 abbrev pub decreases-loop-k : goal.decreases-loop-k
 decreases-loop-k l = l.listed - l.k
