@@ -1,8 +1,8 @@
 // Reads a book from standard input and prints its listing (01, the program meshplan). An input that cannot be read is no empty book.
 #![tactic(auto)]
 
-use libc::STDERR_FILENO;
 use streams::input::read_input;
+use streams::print::STDERR_FILENO;
 
 fn main() {
     // 4,096 bytes, longer than any book: what stands past them changes nothing (`long_input` in crates/guarantees/specs/Main.antt).

@@ -4,8 +4,8 @@
 
 use books::show_book;
 use codec::LONGEST_BOOK;
-use libc::STDERR_FILENO;
 use streams::input::read_input;
+use streams::print::STDERR_FILENO;
 use streams::print::line;
 
 fn main() {

@@ -3,9 +3,9 @@
 #![tactic(auto)]
 
 use bridges::survey;
-use libc::STDERR_FILENO;
 use mesh::{Answer, Mesh};
 use streams::input::read_input;
+use streams::print::STDERR_FILENO;
 use streams::print::{answer_line, end, field, number, word};
 
 fn main() {
