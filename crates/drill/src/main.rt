@@ -14,9 +14,9 @@ use streams::print::word;
 // crates/guarantees/specs/Main.antt).
 const MOST_INPUT: usize = 4;
 
-fn main() {
+fn main(rt: HostRuntime) {
     let mut input = [0u8; MOST_INPUT];
-    let came = read_input(&mut input);
+    let came = read_input(&mut rt.stdin(), &mut input);
     if came.failed {
         io::write_all(STDERR_FILENO, b"drill: standard input cannot be read\n");
         return;
