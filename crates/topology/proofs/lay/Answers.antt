@@ -2,9 +2,11 @@
 use Rattle.topology.proofs.lay.Goals as goal
 
 pub returns-in-First : goal.returns-in-First
-returns-in-First c = rw c.in-First.is c.orient.ensures
+returns-in-First c =
+    let e = c.orient.ensures in
+    rw c.in-First.is (record { tails = e.tails; heads = e.heads })
 
 pub returns-in-Second : goal.returns-in-Second
 returns-in-Second c =
-    let (t, h) = c.orient-in-Second.ensures in
-    rw c.in-Second.is (h, t)
+    let e = c.orient-in-Second.ensures in
+    rw c.in-Second.is (record { tails = e.heads; heads = e.tails })

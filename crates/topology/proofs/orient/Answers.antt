@@ -1,4 +1,4 @@
-use Prim.Native.Nat.{◌-◌, min}
+use Prim.Native.Nat.{min}
 use mathlib.Core.Path.{◌≡◌, sym}
 use native.Mathlib.Omega.{arith}
 use Rattle.scan.specs.Sweep.{sweep_none, sweep-turn}
@@ -14,7 +14,7 @@ loop-i-preserved c =
     let a = c.args in
     let lo = c.loop-i in (
       omega arith,
-      sweep-turn _ a.tails.now lo.tails lo.i lo.invariant.1 _ c.Tail-of.ensures,
+      sweep-turn _ a.tails.now lo.tails lo.i lo.invariant.1 _ c.tail_of.ensures,
       sweep-turn _ a.heads.now lo.heads lo.i lo.invariant.2 _ c.head_of.ensures,
     )
 
@@ -22,4 +22,4 @@ pub returns : goal.returns
 returns c =
     let lo = c.loop-i in
     let all : lo.i ≡ min c.args.count 256 = omega arith in
-    rw (← all) (lo.invariant.1, lo.invariant.2)
+    rw (← all) (record { tails = lo.invariant.1; heads = lo.invariant.2 })
