@@ -121,7 +121,7 @@ fn route_on(
     states: &[u8; 256],
 ) -> Route
     ensures { (m : Mesh) → Given m count ends.now k
-        → let g = backup_on w m (record { directions = directions.entry.now }) in
+        → let g = backup_on w m (record { directions = directions.now }) in
         result ≡ as_route (cond (resting count states.now) (route_from g m.count (failures.cut g k).source states.now) []) }
 {
     if !refusals::is_resting(count, states) {
