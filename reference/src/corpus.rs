@@ -33,11 +33,11 @@ use crate::book::bytes_of;
 use crate::case::Case;
 use crate::random::Random;
 
-/// All cases of the corpus: books first, then mesh records, then plannings,
+/// All cases of the corpus, none of them a survey (`surveys`): books first, then mesh records, then plannings,
 /// then scripts, then books to list, then old sessions, then duct queries, then
 /// collection routes, then drills: their inputs, their meshes and scripts on
 /// these; then all kinds but those of drills again, on meshes with several links
-/// between the same nodes; then surveys. Those about ducts are drawn aside.
+/// between the same nodes. Those about ducts are drawn aside.
 pub fn make(seed: u64) -> Vec<Case> {
     let mut random = Random::new(seed);
     let mut aside = random.aside();
@@ -64,7 +64,6 @@ pub fn make(seed: u64) -> Vec<Case> {
     cases.extend(collections::cases(seed));
     cases.extend(drills::cases(seed));
     cases.extend(doubled::cases(seed));
-    cases.extend(surveys::cases(seed));
     cases
 }
 

@@ -1,8 +1,9 @@
 //! `reference corpus SEED BOOK..` writes a corpus, with each book file as a
-//! book to list at its end; `reference expect` reads a corpus and writes its
-//! listing; `reference script CALL..` reads a book and writes the input of the
-//! program `calls` for this book and these calls; `reference calls` reads such
-//! an input and writes what `calls` prints; `reference show` reads a book and
+//! book to list at its end; `reference surveys SEED` writes a corpus of surveys
+//! alone; `reference expect` reads a corpus and writes its listing; `reference
+//! script CALL..` reads a book and writes the input of the program `calls` for
+//! this book and these calls; `reference calls` reads such an input and writes
+//! what `calls` prints; `reference show` reads a book and
 //! writes what the program `show` prints; `reference digging link LINK` and
 //! `reference digging duct DUCT` read a book and write the input of the program
 //! `dig` for this book and this link or duct; `reference dig` reads such an
@@ -14,8 +15,8 @@
 //! `reference drill` reads a number of middle nodes and writes what the program
 //! `drill` writes, the book of that drill's mesh;
 //! `reference meshplan` reads a book and lists its mesh, its plan and every cut;
-//! `reference book [NAME]` reads a text table and writes its book; a fault is
-//! that of a line of the file NAME, `-` where none is given;
+//! `reference book [NAME]` reads a text table and writes its book; a fault names
+//! its line, and the file NAME where one is given;
 //! `reference sort [NAME]` reads a text table and writes it with its links in
 //! order, and on stderr the old and the new number of each link;
 //! `reference table` reads a book and writes its text table;
@@ -47,6 +48,10 @@ fn main() -> ExitCode {
             Ok(seed) => finish(write_corpus(seed, books)),
             Err(_) => usage(),
         },
+        ["surveys", seed] => match seed.parse() {
+            Ok(seed) => finish(write_surveys(seed)),
+            Err(_) => usage(),
+        },
         ["expect"] => finish(write_listing()),
         ["script", ref words @ ..] => match calls_of(words) {
             Ok(calls) => finish(write_script(&calls)),
@@ -74,10 +79,10 @@ fn main() -> ExitCode {
 /// The commands that read or write text tables, and those that measure.
 fn tables_and_times(words: &[&str]) -> ExitCode {
     match words[..] {
-        ["book"] => exit(write_book("-")),
-        ["book", name] => exit(write_book(name)),
-        ["sort"] => exit(write_sorted("-")),
-        ["sort", name] => exit(write_sorted(name)),
+        ["book"] => exit(write_book(None)),
+        ["book", name] => exit(write_book(Some(name))),
+        ["sort"] => exit(write_sorted(None)),
+        ["sort", name] => exit(write_sorted(Some(name))),
         ["table"] => exit(write_text_table()),
         ["bench"] => finish(write_bench_line()),
         ["time", bench, meshplan] => finish(write_times(&[bench], &[meshplan])),
@@ -91,8 +96,8 @@ fn tables_and_times(words: &[&str]) -> ExitCode {
 
 fn usage() -> ExitCode {
     eprintln!(
-        "usage: reference corpus SEED BOOK.. | reference expect | reference script CALL.. | \
-         reference calls | reference show | reference digging link LINK | \
+        "usage: reference corpus SEED BOOK.. | reference surveys SEED | reference expect | \
+         reference script CALL.. | reference calls | reference show | reference digging link LINK | \
          reference digging duct DUCT | reference dig | reference collecting ROOT | \
          reference bus | reference survey | reference drill | reference meshplan | \
          reference book [NAME] | reference sort [NAME] | reference table | reference bench | \
@@ -112,6 +117,10 @@ fn write_corpus(seed: u64, books: &[&str]) -> io::Result<()> {
         cases.push(corpus::listings::case(read_book(path)?));
     }
     io::stdout().write_all(&write_cases(&cases))
+}
+
+fn write_surveys(seed: u64) -> io::Result<()> {
+    io::stdout().write_all(&write_cases(&corpus::surveys::cases(seed)))
 }
 
 /// The bytes of a file, at most as many as a case can hold.
@@ -183,7 +192,7 @@ fn write_meshplan() -> io::Result<()> {
 }
 
 /// A table that is not a mesh is answered on stderr, with nothing on stdout.
-fn write_book(name: &str) -> io::Result<ExitCode> {
+fn write_book(name: Option<&str>) -> io::Result<ExitCode> {
     match table::read(&read_text()?) {
         Ok(mesh) => finish_with(&bytes_of(&mesh)),
         Err(fault) => Ok(faulty(name, &fault)),
@@ -191,7 +200,7 @@ fn write_book(name: &str) -> io::Result<ExitCode> {
 }
 
 /// The same, with the number of each link on stderr.
-fn write_sorted(name: &str) -> io::Result<ExitCode> {
+fn write_sorted(name: Option<&str>) -> io::Result<ExitCode> {
     match sorted(&read_text()?) {
         Ok((table, moves)) => {
             moves.iter().for_each(|moved| eprintln!("{moved}"));
@@ -201,8 +210,11 @@ fn write_sorted(name: &str) -> io::Result<ExitCode> {
     }
 }
 
-fn faulty(name: &str, fault: &table::Fault) -> ExitCode {
-    eprintln!("{name}:{fault}");
+fn faulty(name: Option<&str>, fault: &table::Fault) -> ExitCode {
+    match name {
+        Some(name) => eprintln!("{}", fault.in_file(name)),
+        None => eprintln!("{fault}"),
+    }
     ExitCode::FAILURE
 }
 

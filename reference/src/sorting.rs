@@ -216,23 +216,23 @@ mod tests {
         for (table, expected) in [
             (
                 "",
-                "1: the table begins with `nodes N`, N the number of nodes",
+                "line 1: the table begins with `nodes N`, N the number of nodes",
             ),
             (
                 "nodes 3\n2 1\n1 1\n",
-                "3: refused 7: low end 1 is not below high end 1",
+                "line 3: refused 7: low end 1 is not below high end 1",
             ),
             (
                 "nodes 3\n2 1\n3 0\n",
-                "3: refused 6: end 3 is not below 3, the number of nodes",
+                "line 3: refused 6: end 3 is not below 3, the number of nodes",
             ),
             (
                 "nodes 3\n2 1\n# p\nx 0\n",
-                "4: low end `x` is not a decimal number",
+                "line 4: low end `x` is not a decimal number",
             ),
             (
                 "nodes 3\n2 1\n2 0 -1\n",
-                "3: length `-1` is not a decimal number",
+                "line 3: length `-1` is not a decimal number",
             ),
         ] {
             let fault = sorted(table).map_err(|fault| fault.to_string());

@@ -21,7 +21,14 @@ pub struct Fault {
 
 impl Display for Fault {
     fn fmt(&self, formatter: &mut Formatter) -> Written {
-        write!(formatter, "{}: {}", self.line, self.reason)
+        write!(formatter, "line {}: {}", self.line, self.reason)
+    }
+}
+
+impl Fault {
+    /// In words, for a table in a file of this name.
+    pub fn in_file(&self, name: &str) -> String {
+        format!("{name}:{}: {}", self.line, self.reason)
     }
 }
 
@@ -245,28 +252,28 @@ mod tests {
     #[test]
     fn the_first_line_gives_the_nodes() {
         let begins = "the table begins with `nodes N`, N the number of nodes";
-        assert_fault("", &format!("1: {begins}"));
-        assert_fault("# nodes 3\n", &format!("1: {begins}"));
-        assert_fault("# a mesh\n0 1\n", &format!("2: {begins}"));
-        assert_fault("nodes\n0 1\n", &format!("1: {begins}"));
-        assert_fault("nodes 3 3\n", &format!("1: {begins}"));
+        assert_fault("", &format!("line 1: {begins}"));
+        assert_fault("# nodes 3\n", &format!("line 1: {begins}"));
+        assert_fault("# a mesh\n0 1\n", &format!("line 2: {begins}"));
+        assert_fault("nodes\n0 1\n", &format!("line 1: {begins}"));
+        assert_fault("nodes 3 3\n", &format!("line 1: {begins}"));
         assert_fault(
             "nodes x\n",
-            "1: number of nodes `x` is not a decimal number",
+            "line 1: number of nodes `x` is not a decimal number",
         );
         assert_fault(
             "nodes -3\n",
-            "1: number of nodes `-3` is not a decimal number",
+            "line 1: number of nodes `-3` is not a decimal number",
         );
     }
 
     #[test]
     fn refuses_a_wrong_number_of_nodes() {
         for nodes in ["0", "1", "65", "256", "258", "18446744073709551615"] {
-            let expected = format!("1: refused 3: {nodes} nodes, a mesh has 2 to 64");
+            let expected = format!("line 1: refused 3: {nodes} nodes, a mesh has 2 to 64");
             assert_fault(&format!("nodes {nodes}\n"), &expected);
         }
-        let expected = "1: number of nodes 18446744073709551616 is too large, \
+        let expected = "line 1: number of nodes 18446744073709551616 is too large, \
             the most is 18446744073709551615";
         assert_fault("nodes 18446744073709551616\n", expected);
     }
@@ -291,7 +298,7 @@ mod tests {
             ("9 9", "refused 7: low end 9 is not below high end 9"),
             ("0 2", "refused 8: pair 0 2 is below the previous pair 0 3"),
         ] {
-            assert_fault(&table(line), &format!("4: {expected}"));
+            assert_fault(&table(line), &format!("line 4: {expected}"));
         }
     }
 
@@ -310,7 +317,7 @@ mod tests {
         let after_equal = "nodes 3\n0 2\n0 2\n0 1\n";
         assert_fault(
             after_equal,
-            "4: refused 8: pair 0 1 is below the previous pair 0 2",
+            "line 4: refused 8: pair 0 1 is below the previous pair 0 2",
         );
     }
 
@@ -320,7 +327,7 @@ mod tests {
         let lines: Vec<String> = pairs.map(|(low, high)| format!("{low} {high}")).collect();
         let table = |count: usize| format!("nodes 64\n{}\n", lines[..count].join("\n"));
         assert_eq!(read(&table(256)).map(|mesh| mesh.count), Ok(256));
-        let expected = "258: refused 4: link number 256, a mesh has at most 256 links";
+        let expected = "line 258: refused 4: link number 256, a mesh has at most 256 links";
         assert_fault(&table(257), expected);
         assert_fault(&table(300), expected);
     }
@@ -349,7 +356,7 @@ mod tests {
                 "duct 65536 is too large, the most is 65535",
             ),
         ] {
-            assert_fault(&table(line), &format!("4: {expected}"));
+            assert_fault(&table(line), &format!("line 4: {expected}"));
         }
     }
 
@@ -357,7 +364,7 @@ mod tests {
     fn names_the_line_with_too_few_or_too_many_words() {
         for (line, words) in [("2", 1), ("0 2 1 1 1 1", 6), ("0 2 1 1 1 1 # new", 6)] {
             let expected = format!(
-                "2: a link is `low high length pair duct`, the last one, two or \
+                "line 2: a link is `low high length pair duct`, the last one, two or \
                  three left out where they are 0; here are {words} words"
             );
             assert_fault(&format!("nodes 4\n{line}\n"), &expected);

@@ -178,16 +178,6 @@ fn collecting_writes_the_input_of_bus() {
 }
 
 #[test]
-fn survey_prints_parts_and_bridging_links() {
-    assert_eq!(run(&["survey"], &P5).stdout, b"survey 1 0\npart 0 1 2 3\n");
-    // The links (0, 3) and (1, 2).
-    let expected = b"survey 2 2\npart 0 3\npart 1 2\nbridge 0 0 3\nbridge 1 1 2\n";
-    assert_eq!(run(&["survey"], &[1, 4, 2, 0, 2, 3, 1, 1]).stdout, expected);
-    assert_eq!(run(&["survey"], b"").stdout, b"read refused 1 0\n");
-    assert_eq!(run(&["survey", "1"], b"").status.code(), Some(2));
-}
-
-#[test]
 fn drill_writes_a_book_or_refuses() {
     assert_eq!(run(&["drill"], b"1").stdout, P1);
     assert_eq!(run(&["drill"], b"1\n").stdout, P1);

@@ -16,8 +16,8 @@ struct Part {
 }
 
 /// Books, mesh records, plannings, scripts, books to list, old sessions, duct
-/// queries, collection routes, drills' inputs, drills' meshes, surveys.
-type Parts = [Part; 11];
+/// queries, collection routes, drills' inputs, drills' meshes.
+type Parts = [Part; 10];
 
 fn kind(case: &Case) -> usize {
     match case {
@@ -31,7 +31,7 @@ fn kind(case: &Case) -> usize {
         Case::Collection { .. } => 7,
         Case::DrillInput { .. } => 8,
         Case::DrillMesh { .. } => 9,
-        Case::Survey { .. } => 10,
+        Case::Survey { .. } => panic!("no corpus has a survey"),
     }
 }
 
@@ -42,7 +42,7 @@ fn corpora() -> &'static [Parts] {
 }
 
 fn parts(cases: &[Case]) -> Parts {
-    [0, 1, 2, 3, 4, 5, 6, 7, 8, 9, 10].map(|number| {
+    [0, 1, 2, 3, 4, 5, 6, 7, 8, 9].map(|number| {
         let of_kind = cases.iter().filter(|case| kind(case) == number);
         let cases: Vec<Case> = of_kind.cloned().collect();
         let listing = listing(&cases).expect("both methods of planning agree");
@@ -132,7 +132,7 @@ fn each_kind_together(cases: &[Case]) -> bool {
 }
 
 /// Scripts on drills' meshes come after these, and then all kinds but those of
-/// drills, on meshes with several links between the same nodes, and surveys.
+/// drills, on meshes with several links between the same nodes.
 #[test]
 fn each_kind_stands_together_up_to_the_drills_and_after_them() {
     for seed in SEEDS {
@@ -142,28 +142,27 @@ fn each_kind_stands_together_up_to_the_drills_and_after_them() {
         let (before, after) = cases.split_at(last_mesh + 1);
         let is_script = |case: &&Case| matches!(case, Case::Script(_));
         let scripts = after.iter().take_while(is_script).count();
-        let doubled_and_surveys = &after[scripts..];
-        assert!(scripts >= 100 && doubled_and_surveys.len() >= 6_000);
-        assert!(each_kind_together(before) && each_kind_together(doubled_and_surveys));
-        let kinds: BTreeSet<usize> = doubled_and_surveys.iter().map(kind).collect();
-        assert_eq!(kinds, BTreeSet::from_iter((0..8).chain([10])));
+        let doubled = &after[scripts..];
+        assert!(scripts >= 100 && doubled.len() >= 4_900);
+        assert!(each_kind_together(before) && each_kind_together(doubled));
+        let kinds: BTreeSet<usize> = doubled.iter().map(kind).collect();
+        assert_eq!(kinds, BTreeSet::from_iter(0..8));
     }
 }
 
 #[test]
 fn counts_and_sizes() {
     // Books, mesh records, plannings, scripts, books to list, old sessions, duct
-    // queries, collection routes, drills' inputs, drills' meshes, surveys.
+    // queries, collection routes, drills' inputs, drills' meshes.
     let fewest = [
-        8_500, 3_000, 4_200, 4_950, 1_700, 750, 1_600, 2_250, 2_500, 277, 1_000,
+        8_500, 3_000, 4_200, 4_950, 1_700, 750, 1_600, 2_250, 2_500, 277,
     ];
     let most_bytes = [
         520_000, 430_000, 500_000, 1_460_000, 270_000, 350_000, 350_000, 350_000, 50_000, 1_200,
-        390_000,
     ];
     let longest_listings = [
         2_400_000, 720_000, 500_000, 12_300_000, 2_000_000, 2_150_000, 220_000, 270_000, 90_000,
-        260_000, 200_000,
+        260_000,
     ];
     for parts in corpora() {
         for (number, part) in parts.iter().enumerate() {
@@ -172,7 +171,7 @@ fn counts_and_sizes() {
             assert!(part.listing.len() < longest_listings[number]);
         }
         let bytes = parts.iter().map(|part| write_cases(&part.cases).len());
-        assert!(bytes.sum::<usize>() < 4_150_000);
+        assert!(bytes.sum::<usize>() < 3_800_000);
         let listings = parts.iter().map(|part| part.listing.len());
         assert!(listings.sum::<usize>() < 20_100_000);
     }
@@ -218,7 +217,6 @@ fn every_refusal_is_met() {
         assert_eq!(refusals(parts, "carry-over"), mesh_and(&[]));
         assert_eq!(refusals(parts, "sharing"), mesh_and(&[11, 12]));
         assert_eq!(refusals(parts, "collect"), mesh_and(&[11, 20]));
-        assert_eq!(refusals(parts, "survey"), mesh_and(&[]));
         let plannings = &parts[2].listing;
         assert!(count_lines(plannings, "plan accepted") >= 1_100);
         assert!(count_lines(plannings, "plan refused 20 ") >= 500);
@@ -379,7 +377,7 @@ fn values(line: &str) -> Vec<&str> {
 
 #[test]
 fn collection_routes_have_their_tree_links_and_leave_the_rest() {
-    for [.., collections, _, _, _] in corpora() {
+    for [.., collections, _, _] in corpora() {
         let listing = &collections.listing;
         assert!(count_lines(listing, "collect accepted") >= 650);
         assert!(count_lines(listing, "collect refused 6 0") >= 115);
@@ -400,7 +398,7 @@ fn collection_routes_have_their_tree_links_and_leave_the_rest() {
 
 #[test]
 fn every_drill_is_asked_for_in_two_ways_and_written() {
-    for [.., inputs, meshes, _] in corpora() {
+    for [.., inputs, meshes] in corpora() {
         for middles in 1..=62 {
             let line = format!("asked {middles}");
             let asked = inputs.listing.lines().filter(|asked| *asked == line);
@@ -416,28 +414,6 @@ fn every_drill_is_asked_for_in_two_ways_and_written() {
         assert_eq!(count_lines(listing, "write accepted"), 62 + 6);
         assert_eq!(count_lines(listing, "write refused 11 "), 6 * 2);
         assert_eq!(count_lines(listing, "check refused 3 0"), 194 + 3);
-    }
-}
-
-#[test]
-fn surveys_have_parts_and_bridging_links() {
-    for [.., surveys] in corpora() {
-        let lines: Vec<&str> = surveys.listing.lines().collect();
-        let mut counts = [0; 4];
-        for (lines, case) in lines.chunks(5).zip(&surveys.cases) {
-            let Case::Survey { mesh } = case else {
-                panic!("another case");
-            };
-            let (parts, bridges) = (values(lines[2]), values(lines[4]));
-            let accepted = lines[1] == "survey accepted";
-            assert_eq!(parts.len(), usize::from(accepted) * usize::from(mesh.nodes));
-            assert_eq!(lines[3], "rest 0");
-            let apart = parts.iter().any(|part| *part != "0");
-            let kind = 2 * usize::from(apart) + usize::from(!bridges.is_empty());
-            counts[kind] += usize::from(accepted);
-        }
-        // Whole without and with bridging links, apart without and with them.
-        assert!(counts.iter().all(|count| *count > 60), "{counts:?}");
     }
 }
 

@@ -1,4 +1,7 @@
-//! The survey against its definition, and against the planner.
+//! The survey against its definition, and against the planner; and its command
+//! as it is run.
+
+mod program;
 
 use reference::corpus::doubled::graphs::{every, random_ones, some_times, two_nodes};
 use reference::corpus::graphs::{renumbered, side_by_side, Graph};
@@ -10,6 +13,10 @@ use reference::plan::plan;
 use reference::random::Random;
 use reference::refusal::{Answer, Reason, Refusal};
 use reference::survey::{survey, Survey};
+
+use program::run;
+
+const P5: [u8; 13] = [1, 4, 5, 0, 0, 2, 2, 2, 3, 1, 1, 1, 2];
 
 /// What planning answers to a mesh with this survey.
 fn planned(mesh: &Mesh, survey: &Survey) -> Answer {
@@ -190,4 +197,14 @@ fn lengths_pairs_and_ducts_do_not_matter() {
         let filled = partly_filled(nodes, &shape, random);
         assert_eq!(survey(&filled), survey(&plain(nodes, &shape)));
     }
+}
+
+#[test]
+fn survey_prints_parts_and_bridging_links() {
+    assert_eq!(run(&["survey"], &P5).stdout, b"survey 1 0\npart 0 1 2 3\n");
+    // The links (0, 3) and (1, 2).
+    let expected = b"survey 2 2\npart 0 3\npart 1 2\nbridge 0 0 3\nbridge 1 1 2\n";
+    assert_eq!(run(&["survey"], &[1, 4, 2, 0, 2, 3, 1, 1]).stdout, expected);
+    assert_eq!(run(&["survey"], b"").stdout, b"read refused 1 0\n");
+    assert_eq!(run(&["survey", "1"], b"").status.code(), Some(2));
 }

@@ -1,9 +1,13 @@
-//! The cases of every corpus tell each of the wrong surveys from the right one.
+//! What the surveys of every seed hold, and that they tell each of the wrong
+//! surveys from the right one.
 
 mod wrong_surveys;
 
-use reference::case::Case;
+use std::collections::BTreeSet;
+
+use reference::case::{read_cases, write_cases, Case};
 use reference::corpus::surveys;
+use reference::listing::listing;
 use reference::mesh::{Mesh, MOST_LINKS};
 use reference::survey::{survey, Survey};
 
@@ -18,6 +22,70 @@ fn meshes(seed: u64) -> Vec<Mesh> {
         _ => panic!("another case"),
     };
     cases.map(mesh).collect()
+}
+
+#[test]
+fn written_surveys_read_back() {
+    for seed in SEEDS {
+        let cases = surveys::cases(seed);
+        assert_eq!(read_cases(&write_cases(&cases)), Ok(cases));
+    }
+}
+
+#[test]
+fn the_seed_decides_the_surveys() {
+    assert_eq!(surveys::cases(7), surveys::cases(7));
+    assert_ne!(surveys::cases(7), surveys::cases(8));
+}
+
+#[test]
+fn counts_and_sizes() {
+    for seed in SEEDS {
+        let cases = surveys::cases(seed);
+        assert!(cases.len() >= 1_000);
+        assert!(write_cases(&cases).len() < 390_000);
+        assert!(listing(&cases).unwrap().len() < 200_000);
+    }
+}
+
+/// The words of a line after its first.
+fn values(line: &str) -> Vec<&str> {
+    line.split(' ').skip(1).collect()
+}
+
+#[test]
+fn surveys_have_parts_and_bridging_links() {
+    for seed in SEEDS {
+        let (meshes, listing) = (meshes(seed), listing(&surveys::cases(seed)).unwrap());
+        let lines: Vec<&str> = listing.lines().collect();
+        assert_eq!(lines.len(), 5 * meshes.len());
+        let mut counts = [0; 4];
+        for (lines, mesh) in lines.chunks(5).zip(&meshes) {
+            let (parts, bridges) = (values(lines[2]), values(lines[4]));
+            let accepted = lines[1] == "survey accepted";
+            assert_eq!(parts.len(), usize::from(accepted) * usize::from(mesh.nodes));
+            assert_eq!(lines[3], "rest 0");
+            let apart = parts.iter().any(|part| *part != "0");
+            let kind = 2 * usize::from(apart) + usize::from(!bridges.is_empty());
+            counts[kind] += usize::from(accepted);
+        }
+        // Whole without and with bridging links, apart without and with them.
+        assert!(counts.iter().all(|count| *count > 60), "{counts:?}");
+    }
+}
+
+#[test]
+fn every_refusal_of_a_mesh_is_met_and_no_other() {
+    for seed in SEEDS {
+        let listing = listing(&surveys::cases(seed)).unwrap();
+        let refused = listing
+            .lines()
+            .filter_map(|line| line.strip_prefix("survey refused "));
+        let numbers = refused.map(|rest| rest.split(' ').next().unwrap());
+        let expected = BTreeSet::from(["3", "4", "6", "7", "8", "13"]);
+        assert_eq!(numbers.collect::<BTreeSet<_>>(), expected);
+        assert!(listing.is_ascii() && !listing.contains(" \n"));
+    }
 }
 
 /// How many meshes of a corpus have another survey.

@@ -1,4 +1,4 @@
-//! Surveys of meshes of every kind.
+//! Surveys of meshes of every kind, a corpus of their own.
 
 pub mod apart;
 pub mod bridged;
