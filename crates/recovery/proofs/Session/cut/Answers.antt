@@ -1,6 +1,5 @@
 -- `recovery::Session::cut` meets its contract: the answer says of the cut and of the floods whether they stay.
 use mathlib.Core.Path.{ap, ◌∙◌}
-use borrow.Author.Rules.{rules}
 use Rattle.mesh.specs.declared.Answer.{Answer}
 use Rattle.flood.specs.Digraph.{cut}
 use Rattle.wavelengths.specs.declared.Wavelength.{Wavelength}
@@ -10,26 +9,15 @@ use Rattle.recovery.specs.Session.{floods, session_of}
 use Rattle.recovery.specs.Calls.{digraph, cut_on, change, after_cut}
 use Rattle.recovery.specs.Pieces.{change_to}
 use Rattle.recovery.specs.Laws.Calls.{change-chosen}
-use Rattle.recovery.proofs.Session.cut.Statement.{statement}
-use Rattle.recovery.proofs.Session.cut.Tie as tie
+use Rattle.recovery.proofs.Session.cut.Goals as goal
 
-cut-requires : tie.Need-cut-requires
-cut-requires c κs = search rules
-
-cut-after-requires : tie.Need-cut-after-requires
-cut-after-requires c κs = search rules
-
-returns : tie.Need-returns
+pub returns : goal.returns
 unfolding after_cut
 returns c =
-    let d = c.before in
-    let a = d.before.before.before.before.before.before.before.before.before.before.before.before.before.args in
+    let a = c.args in
     let s = a.self in
     let g = digraph s in
-    let r = d.cut.result in
-    (λ i. change_to (session_of s.mesh s.plan (c.cut-after.ensures i) (d.cut.ensures.floods i)) r)
+    let r = c.cut-answer.result in
+    (λ i. change_to (session_of s.mesh s.plan (c.cut_after-cut.ensures i) (c.cut-answer.ensures.floods i)) r)
     ∙ change-chosen s (cuts.Link a.link) (begin g (λ (w : Wavelength). cut (g w) a.link) (floods s)) r
-    ∙ ap (λ (x : Answer). change x s (cut_on s a.link)) d.cut.ensures.answer
-
-pub cut_spec : {M : Type 1} → statement M
-cut_spec = tie.close (tie.spec cut-requires cut-after-requires returns)
+    ∙ ap (λ (x : Answer). change x s (cut_on s a.link)) c.cut-answer.ensures.answer
