@@ -38,7 +38,7 @@ pub fn begin(
     reached: &mut [bool; 64],
 )
     ensures { (m : Mesh) → Given m count ends.now k
-        → let g = backup_on wavelength m (record { directions = directions.entry.now }) in
+        → let g = backup_on wavelength m (record { directions = directions.now }) in
         flood states.new reached.new ≡ begin g (cut g k) (flood states.old reached.old) }
 {
     let mut tails = [0u8; 256];
@@ -62,7 +62,7 @@ pub fn step(
     link: u16,
 ) -> Acted
     ensures { (m : Mesh) → Given m count ends.now k
-        → let g = backup_on wavelength m (record { directions = directions.entry.now }) in
+        → let g = backup_on wavelength m (record { directions = directions.now }) in
         Stepped g (cut g k) link (flood states.old reached.old) (flood states.new reached.new) result }
 {
     let mut tails = [0u8; 256];
@@ -102,7 +102,7 @@ pub fn run(
     allowance: u32,
 ) -> Outcome
     ensures { ((m : Mesh) → Given m count ends.now k
-        → let g : Wavelength → Digraph = λ w. backup_on w m (record { directions = directions.entry.now }) in
+        → let g : Wavelength → Digraph = λ w. backup_on w m (record { directions = directions.now }) in
         Ended g (λ w. cut (g w) k) allowance
         (pair (flood states1.old reached1.old) (flood states2.old reached2.old))
         (pair (flood states1.new reached1.new) (flood states2.new reached2.new)) result.made result.rest) }
@@ -145,7 +145,7 @@ pub fn route(
     states: &[u8; 256],
 ) -> Route
     ensures { (m : Mesh) → Given m count ends.now k
-        → let g = backup_on wavelength m (record { directions = directions.entry.now }) in result ≡ followed g (cut g k).source states.now }
+        → let g = backup_on wavelength m (record { directions = directions.now }) in result ≡ followed g (cut g k).source states.now }
 {
     let mut tails = [0u8; 256];
     let mut heads = [0u8; 256];

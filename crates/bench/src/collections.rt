@@ -3,7 +3,7 @@ ghost use Rattle.std.specs.Prelude.{◌≤◌};
 
 use crate::job::print_answer;
 use collection::Collected;
-use libc::STDOUT_FILENO;
+use streams::print::STDOUT_FILENO;
 use mesh::{Answer, Mesh};
 
 // The entries of the longest route, that over 64 nodes.

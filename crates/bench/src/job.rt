@@ -1,7 +1,7 @@
 // The jobs.
 use crate::{collections, sessions};
 use codec::{Decoded, LONGEST_BOOK};
-use libc::STDOUT_FILENO;
+use streams::print::STDOUT_FILENO;
 use mesh::{Answer, Mesh};
 use planner::Planned;
 

@@ -9,7 +9,7 @@ mod job;
 mod sessions;
 
 use codec::LONGEST_BOOK;
-use libc::STDIN_FILENO;
+use streams::input::STDIN_FILENO;
 
 fn main() {
     let mut head = [0u8; 5];

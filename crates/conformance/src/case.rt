@@ -9,7 +9,7 @@ use crate::planning::run_planning;
 use crate::record::run_mesh;
 use crate::sharing::run_sharing;
 use crate::surveying::run_survey;
-use libc::STDIN_FILENO;
+use streams::input::STDIN_FILENO;
 
 // Reads the next case, prints its answers, and says whether there was one.
 pub(crate) fn run_case(case: u64) -> bool {

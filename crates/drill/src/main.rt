@@ -5,18 +5,18 @@
 mod book;
 
 use book::write_drill;
-use libc::STDERR_FILENO;
 use streams::held::write;
 use streams::input::read_input;
+use streams::print::STDERR_FILENO;
 use streams::print::word;
 
 // One byte more than the longest good input, two digits and a line feed: what stands past them changes nothing (`drill_long_input` in
 // crates/guarantees/specs/Main.antt).
 const MOST_INPUT: usize = 4;
 
-fn main() {
+fn main(rt: HostRuntime) {
     let mut input = [0u8; MOST_INPUT];
-    let came = read_input(&mut input);
+    let came = read_input(&mut rt.stdin(), &mut input);
     if came.failed {
         io::write_all(STDERR_FILENO, b"drill: standard input cannot be read\n");
         return;

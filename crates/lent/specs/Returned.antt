@@ -54,6 +54,7 @@ module _ (S : State) (R : Returned S) where
   struct = record {
     name = R.name;
     args = [];
+    types = [];
     parts = fields.field S.T ∷ enum.field R.E ∷ [];
     D = R.D;
     as_values = λ d. (R.state d, (R.answer d, tt));

@@ -1,1 +1,3 @@
+#![tactic(auto)]
+
 // Theory only: calls on a struct that is lent.

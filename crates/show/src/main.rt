@@ -4,14 +4,14 @@
 
 use books::show_book;
 use codec::LONGEST_BOOK;
-use libc::STDERR_FILENO;
 use streams::input::read_input;
+use streams::print::STDERR_FILENO;
 use streams::print::line;
 
-fn main() {
+fn main(rt: HostRuntime) {
     // 4,096 bytes, longer than any book: what stands past them changes no answer (`long_input` in crates/guarantees/specs/Main.antt).
     let mut book = io::buffer();
-    let came = read_input(&mut book);
+    let came = read_input(&mut rt.stdin(), &mut book);
     if came.failed {
         io::write_all(STDERR_FILENO, b"show: standard input cannot be read\n");
         return;

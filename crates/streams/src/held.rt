@@ -1,6 +1,6 @@
 // Lines of words and numbers, held in a buffer until it is written. Each function answers where the next byte goes; a byte past the
 // buffer's end is left out.
-use libc::STDOUT_FILENO;
+use crate::print::STDOUT_FILENO;
 
 // The size of a buffer for many lines, and where it counts as full: what is left holds any line of up to 2,048 bytes.
 pub const SIZE: usize = 16384;

@@ -1,7 +1,10 @@
 // Numbers on standard input, low byte first; 0 past its end.
 ghost use Rattle.io.specs.Counts.{IsPrefixLen};
 
-use libc::STDIN_FILENO;
+use std::io::{Read, Stdin};
+
+// The number of the descriptor that programs read from.
+pub const STDIN_FILENO: i32 = 0;
 
 // What reading gave: so many bytes, or none where the input cannot be read.
 #[derive(Clone, Copy)]
@@ -11,15 +14,19 @@ pub struct Came {
 }
 
 // Reads into the front of `space` until it is full or the input ends. A read that fails after the first counts as the input's end.
-pub fn read_input(space: &mut [u8]) -> Came
+pub fn read_input(input: &mut Stdin, space: &mut [u8]) -> Came
     ensures { IsPrefixLen result.count space.new }
 {
-    let got = libc::read(STDIN_FILENO, space);
-    let first = io::count(got, space);
-    if got <= 0 {
+    let Ok(first) = input.read(space) else {
         return Came {
             count: 0,
-            failed: got < 0,
+            failed: true,
+        };
+    };
+    if first == 0 {
+        return Came {
+            count: 0,
+            failed: false,
         };
     }
     let rest = io::read_full(STDIN_FILENO, &mut space[first..]);

@@ -1,6 +1,10 @@
 // Words, numbers and answers on standard output.
-use libc::STDOUT_FILENO;
 use mesh::Answer;
+
+// The numbers of the descriptors that programs write to.
+pub const STDOUT_FILENO: i32 = 1;
+
+pub const STDERR_FILENO: i32 = 2;
 
 pub fn word(text: &[u8]) {
     io::write_all(STDOUT_FILENO, text);

@@ -3,15 +3,15 @@
 #![tactic(auto)]
 
 use bridges::survey;
-use libc::STDERR_FILENO;
 use mesh::{Answer, Mesh};
 use streams::input::read_input;
+use streams::print::STDERR_FILENO;
 use streams::print::{answer_line, end, field, number, word};
 
-fn main() {
+fn main(rt: HostRuntime) {
     // 4,096 bytes, longer than any book: what stands past them changes nothing (`long_input` in crates/guarantees/specs/Main.antt).
     let mut book = io::buffer();
-    let came = read_input(&mut book);
+    let came = read_input(&mut rt.stdin(), &mut book);
     if came.failed {
         io::write_all(STDERR_FILENO, b"survey: standard input cannot be read\n");
         return;
@@ -53,7 +53,7 @@ fn count_parts(parts: &[u8; 64], nodes: u8) -> u64 {
     let mut v: u8 = 0;
     while v < nodes {
         if part_of(parts, v) == v {
-            n = std::num::wrapping_add_u64(n, 1);
+            n = n.wrapping_add(1);
         }
         v += 1;
     }
@@ -65,7 +65,7 @@ fn count_bridges(bridges: &[u8; 256]) -> u64 {
     let mut k: usize = 0;
     while k < 256 {
         if bridges[k] == 1 {
-            n = std::num::wrapping_add_u64(n, 1);
+            n = n.wrapping_add(1);
         }
         k += 1;
     }

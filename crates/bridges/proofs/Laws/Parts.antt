@@ -2,7 +2,6 @@
 use Rattle.std.specs.Prelude.{ℕ, ◌%◌, ◌<◌, ◌≤◌, ◌≡◌, true, List}
 use Rattle.std.proofs.Math.Path.{sym}
 use Rattle.std.proofs.Common.{◌∙◌, arith}
-use Rattle.scan.specs.Entry.{at}
 use Rattle.scan.specs.Lowest.{None, lowest_found, lowest_none}
 use Rattle.scan.specs.Bits.{has}
 use Rattle.graph.specs.Net.{Net, Fits, Ways, both_ways}

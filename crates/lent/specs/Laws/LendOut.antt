@@ -4,8 +4,8 @@
 use Rattle.std.specs.Prelude.{◌≡◌, refl, ℕ, suc, [], ◌∷◌, ◌++◌, List, length}
 use Rattle.std.proofs.Common.{sym, ap, subst, ◌∙◌}
 use seplogic.Ra.Ura.{Ura}
-use seplogic.Ra.TreeShare.{full_share}
-use mir.Syntax.{Name, Fn, Width, local, value_local, memory_slot, seq, assign, call, return, rv_opd, copy, place, addr_of, aggregate, ty_ref, mut, named, erased}
+use base.Fraction.{full_share}
+use mir.Syntax.{Callee, Fn, Width, local, value_local, memory_slot, seq, assign, call, return, rv_opd, copy, place, addr_of, aggregate, ty_ref, mut, named, erased}
 use mir.Val.{Val, vptr}
 use base.Logic.{SProp, ent, sep, emp, via, fst∗, id⊢}
 use base.Fml.{Fml, fsep, GName, ftrue, fat, flft, fres, flent}
@@ -23,7 +23,6 @@ use denote.Laws.{Is, shows}
 use denote.Lend.{lends_ref, ref_back}
 use denote.Memory.{mem, pointee, cell_at, part_at, part_of}
 use denote.Ref.{MutBor, MutRef}
-use denote.Signature.{plain}
 use denote.Steps.{only, owned, peeks, heard, nothing}
 use denote.Struct.Steps.{spelt}
 use denote.Struct.Laws as LL
@@ -58,10 +57,12 @@ module _ (S : State) (R : Returned S) (ws : List Width) where
   AnswerRow = answer-row S R
 
   -- the code: `let mut t = s; let a = CALLEE(&mut t, k, …); Returned { state: t, answer: a }`. The numbers are the locals from 2 on
-  abbrev pub lent_out : Name → Fn
+  abbrev pub lent_out : Callee → Fn
   lent_out key = record {
     lifetimes = 0;
     outlives = [];
+    ty_params = [];
+    givens = 0;
     params = suc (length ws);
     locals = local (returned_mir S R) value_local ∷ local (state_mir S) value_local ∷ (locals ws ++ (local (state_mir S) memory_slot
         ∷ local (answer_mir S R) value_local ∷ local (ty_ref erased mut (pointee Row.written)) value_local ∷ local (state_mir S) value_local ∷ []));
@@ -99,7 +100,7 @@ module _ (S : State) (R : Returned S) (ws : List Width) where
   abbrev here : Lives
   here = (0, tt)
 
-  module _ (key : Name) (f : S.T.D → Takes ws R.D) {M : Type 1} {𝓤 : Ura M} (𝓛 : Logic 𝓤) (h : S.T.D) (k : Numbers here ws) (was : Is Row h (state-vals S h)) (fit : Fit here ws k) where
+  module _ (key : Callee) (f : S.T.D → Takes ws R.D) {M : Type 1} {𝓤 : Ura M} (𝓛 : Logic 𝓤) (h : S.T.D) (k : Numbers here ws) (was : Is Row h (state-vals S h)) (fit : Fit here ws k) where
     open 𝓛 use {H, A}
 
     abbrev x : S.T.D × Numbers here ws
@@ -184,7 +185,7 @@ module _ (S : State) (R : Returned S) (ws : List Width) where
           use1 𝓛 (later (some (λ (a : R.E.D). ((‵ (flft (α ∷ []) full_share) ⊛ ‵ ftrue) ⊛ ‵ (AnswerRow.own_val a (v ∷ []))) ⊛ raw (ensured 𝓛 (in_place_ended S R ws) (in_place_clauses S R ws f 𝓤) (α ∷ [], tt) (ref l₂ α γ, on l₂ α γ) tt a)))) (id⊢ 𝓤 _) $ await ! tt $ pick ! (λ a.
           split ! $ move ! (1 ∷ []) $ use1 𝓛 (some (λ (us : Lasts (in_place_ended S R ws) (α ∷ [], tt) (ref l₂ α γ, on l₂ α γ)). ‵ (lasts (in_place_ended S R ws) (α ∷ [], tt) (ref l₂ α γ, on l₂ α γ) us) ⊛ raw (fact 𝓤 (Clause l₂ α γ us.0 a)))) (id⊢ 𝓤 _) $ pick ! (λ us.
           split ! $ move ! (1 ∷ []) $ heard ! (Clause l₂ α γ us.0 a) (λ c. let e : (us.0 ≡ t) × (a ≡ R.answer r) = heard_here l₂ α γ us.0 a c in
-          fsplit ! $ rewrite ! 0 (λ (u : S.T.D). ‵ (fres γ (Row.coded.code u))) e.0 refl $ move ! (1 ∷ []) $ drop ! $
+          fsplit ! $ fsplit ! $ rewrite ! 0 (λ (u : S.T.D). ‵ (fres γ (Row.coded.code u))) e.0 refl $ move ! (1 ∷ []) $ drop ! $ move ! (1 ∷ []) $ drop ! $
           -- [the last value; the token and what the answer owns; the numbers; the lender's part; …]
           move ! (1 ∷ []) $ split ! $ move ! (1 ∷ []) $ peeks ! AnswerRow (Is AnswerRow) (shows 𝓛 AnswerRow) a (v ∷ []) (λ is.
           -- [what the answer owns; the token; the last value; the numbers; the lender's part; l₅; …; l₄; …; l₃; …; the end of l₂; l₁; …; l₀; …; true]
@@ -203,7 +204,7 @@ module _ (S : State) (R : Returned S) (ws : List Width) where
           move ! (6 ∷ 7 ∷ []) $ free1 ! $ move ! (4 ∷ 5 ∷ []) $ free1 ! $ move ! (2 ∷ 3 ∷ []) $ free1 ! $ free0 ! $
           keep ! (1 ∷ []) $ by ! (exits (made v a e.1 is ts)))))))))))))))))
 
-  module _ (key : Name) (f : S.T.D → Takes ws R.D) {M : Type 1} {𝓤 : Ura M} (𝓛 : Logic 𝓤) where
+  module _ (key : Callee) (f : S.T.D → Takes ws R.D) {M : Type 1} {𝓤 : Ura M} (𝓛 : Logic 𝓤) where
     open 𝓛 use {H}
 
     out_walks : (C : Calls 𝓤 H) (Λ : Loops 𝓤 H) → FmC 𝓤 H 𝓛.laws C → Triple 𝓤 (C key) (InPlace S R ws f 𝓤 𝓛) → Walks 𝓛 (by_value_ended S R ws) stayed (WpFn 𝓤 H C Λ (lent_out key)) (by_value_clauses S R ws f 𝓤)
@@ -213,7 +214,7 @@ module _ (S : State) (R : Returned S) (ws : List Width) where
     goes : AllGo 𝓛 0 (by_value S R ws).params (by_value_ended S R ws).kept stayed
     goes = (Goes-none 𝓛 0 (λ _. Row) yes (λ κs z w. silent (Row.exit yes) (still yes) z w), go_all 𝓛 0 ws)
 
-  pub lends_out : (key : Name) (f : S.T.D → Takes ws R.D) {M : Type 1} {𝓤 : Ura M} (𝓛 : Logic 𝓤) → (𝓣 : Tables 𝓤 𝓛.H) → Triple 𝓤 (𝓣.C key) (InPlace S R ws f 𝓤 𝓛)
+  pub lends_out : (key : Callee) (f : S.T.D → Takes ws R.D) {M : Type 1} {𝓤 : Ura M} (𝓛 : Logic 𝓤) → (𝓣 : Tables 𝓤 𝓛.H) → Triple 𝓤 (𝓣.C key) (InPlace S R ws f 𝓤 𝓛)
       → Meets 𝓛 (by_value S R ws) (WpFn 𝓤 𝓛.H 𝓣.C 𝓣.Λ (lent_out key)) (closing 𝓛 (by_value_ended S R ws) (by_value_clauses S R ws f 𝓤))
   lends_out key f {𝓤 = 𝓤} 𝓛 𝓣 known = walk_Meets 𝓛 (by_value_ended S R ws) stayed (goes key f 𝓛) (by_value_clauses S R ws f 𝓤) (WpFn 𝓤 𝓛.H 𝓣.C 𝓣.Λ (lent_out key)) (WpFn-mono 𝓤 𝓛.H 𝓛.laws 𝓣 (lent_out key))
       (out_walks key f 𝓛 𝓣.C 𝓣.Λ (fm_of 𝓤 𝓛.H 𝓛.laws 𝓣) known)

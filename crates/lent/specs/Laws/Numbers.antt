@@ -3,7 +3,7 @@
 use Rattle.std.specs.Prelude.{◌≡◌, refl, ℕ, zero, suc, List, [], ◌∷◌, ◌++◌, get_or, drop as skip}
 use Rattle.std.proofs.Common.{sym, ap, subst, ◌∙◌}
 use seplogic.Ra.Ura.{Ura}
-use seplogic.Ra.TreeShare.{full_share}
+use base.Fraction.{full_share}
 use mir.Syntax.{Width, Ty, Local, ty_int, Step as PStep, place, Opd}
 use mir.Val.{Val, vint}
 use base.Logic.{ent, sep, emp, id⊢, via, emp∗, mono∗}

@@ -4,8 +4,8 @@
 use Rattle.std.specs.Prelude.{◌≡◌, refl, ℕ, suc, [], ◌∷◌, ◌++◌, List, length}
 use Rattle.std.proofs.Common.{ap, ◌∙◌}
 use seplogic.Ra.Ura.{Ura}
-use seplogic.Ra.TreeShare.{full_share}
-use mir.Syntax.{Name, Fn, Width, local, value_local, seq, assign, call, return, rv_opd, copy, place, deref, field, ty_ref, mut, named}
+use base.Fraction.{full_share}
+use mir.Syntax.{Callee, Fn, Width, local, value_local, seq, assign, call, return, rv_opd, copy, place, deref, field, ty_ref, mut, named}
 use mir.Val.{Val, vptr}
 use base.Logic.{SProp, ent, sep, emp, via, fst∗, snd∗, ex_e, id⊢}
 use base.Fml.{GName, Lft, Share, ftrue, fat, flft, fobs, fbor}
@@ -48,10 +48,12 @@ module _ (S : State) (R : Returned S) (ws : List Width) where
   AnswerRow = answer-row S R
 
   -- the code: `let r = CALLEE(*s, k, …); *s = r.state; r.answer`. The numbers are the locals from 2 on
-  abbrev pub stored_back : Name → Fn
+  abbrev pub stored_back : Callee → Fn
   stored_back key = record {
     lifetimes = 1;
     outlives = [];
+    ty_params = [];
+    givens = 0;
     params = suc (length ws);
     locals = local (answer_mir S R) value_local ∷ local (ty_ref (named 0) mut (pointee Row.written)) value_local ∷ (locals ws ++ (local (returned_mir S R) value_local ∷ local (state_mir S) value_local ∷ []));
     body = seq (assign (place (past 3 ws) []) (rv_opd (copy (place 1 (deref (state_mir S) ∷ [])))))
@@ -63,7 +65,7 @@ module _ (S : State) (R : Returned S) (ws : List Width) where
   abbrev stayed : Stays (in_place_ended S R ws).signature.params (in_place_ended S R ws).kept
   stayed = (stay_ref (0 ∷ []) tt (plain (λ _. Row)), stay_all 1 ws)
 
-  module _ (key : Name) (f : S.T.D → Takes ws R.D) {M : Type 1} {𝓤 : Ura M} (𝓛 : Logic 𝓤) (κ : Lft) (q : Share) (b o : ℕ) (γ : GName) (h : S.T.D) (a : Numbers (1, (κ, tt)) ws) (fit : Fit (1, (κ, tt)) ws a) where
+  module _ (key : Callee) (f : S.T.D → Takes ws R.D) {M : Type 1} {𝓤 : Ura M} (𝓛 : Logic 𝓤) (κ : Lft) (q : Share) (b o : ℕ) (γ : GName) (h : S.T.D) (a : Numbers (1, (κ, tt)) ws) (fit : Fit (1, (κ, tt)) ws a) where
     -- the lifetimes of this signature, and of the callee's
     open 𝓛 use {H, A}
 
@@ -138,7 +140,7 @@ module _ (S : State) (R : Returned S) (ws : List Width) where
           move ! (12 ∷ 13 ∷ []) $ free1 ! $ move ! (10 ∷ 11 ∷ []) $ free1 ! $ move ! (4 ∷ []) $ free_all here ! ws a bs $ move ! (7 ∷ 8 ∷ []) $ free1 ! $ move ! (5 ∷ 6 ∷ []) $ free1 ! $ free0 ! $
           keep ! (0 ∷ 1 ∷ 2 ∷ []) $ by ! (exits r (e ∙ applied-on here there ws (f h) a) (answer_is S R r _ is)))))))))))))
 
-  module _ (key : Name) (f : S.T.D → Takes ws R.D) {M : Type 1} {𝓤 : Ura M} (𝓛 : Logic 𝓤) where
+  module _ (key : Callee) (f : S.T.D → Takes ws R.D) {M : Type 1} {𝓤 : Ura M} (𝓛 : Logic 𝓤) where
     open 𝓛 use {H}
 
     back_walks : (C : Calls 𝓤 H) (Λ : Loops 𝓤 H) → FmC 𝓤 H 𝓛.laws C → Triple 𝓤 (C key) (ByValue S R ws f 𝓤 𝓛) → Walks 𝓛 (in_place_ended S R ws) stayed (WpFn 𝓤 H C Λ (stored_back key)) (in_place_clauses S R ws f 𝓤)
@@ -148,7 +150,7 @@ module _ (S : State) (R : Returned S) (ws : List Width) where
     goes : AllGo 𝓛 1 (in_place S R ws).params (in_place_ended S R ws).kept stayed
     goes = (Goes-ref 𝓛 1 0 tt (plain (λ _. Row)), go_all 𝓛 1 ws)
 
-  pub stores_back : (key : Name) (f : S.T.D → Takes ws R.D) {M : Type 1} {𝓤 : Ura M} (𝓛 : Logic 𝓤) → (𝓣 : Tables 𝓤 𝓛.H) → Triple 𝓤 (𝓣.C key) (ByValue S R ws f 𝓤 𝓛)
+  pub stores_back : (key : Callee) (f : S.T.D → Takes ws R.D) {M : Type 1} {𝓤 : Ura M} (𝓛 : Logic 𝓤) → (𝓣 : Tables 𝓤 𝓛.H) → Triple 𝓤 (𝓣.C key) (ByValue S R ws f 𝓤 𝓛)
       → Meets 𝓛 (in_place S R ws) (WpFn 𝓤 𝓛.H 𝓣.C 𝓣.Λ (stored_back key)) (closing 𝓛 (in_place_ended S R ws) (in_place_clauses S R ws f 𝓤))
   stores_back key f {𝓤 = 𝓤} 𝓛 𝓣 known = walk_Meets 𝓛 (in_place_ended S R ws) stayed (goes key f 𝓛) (in_place_clauses S R ws f 𝓤) (WpFn 𝓤 𝓛.H 𝓣.C 𝓣.Λ (stored_back key)) (WpFn-mono 𝓤 𝓛.H 𝓛.laws 𝓣 (stored_back key))
       (back_walks key f 𝓛 𝓣.C 𝓣.Λ (fm_of 𝓤 𝓛.H 𝓛.laws 𝓣) known)

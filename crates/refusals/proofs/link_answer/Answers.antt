@@ -1,0 +1,16 @@
+-- `refusals::link_answer` meets its contract: each return rewrites with the tests that led there.
+use borrow.Author.Tests.{lt-ltb, le-ltb}
+use Rattle.refusals.specs.Refusals.{link_answer}
+use Rattle.refusals.proofs.link_answer.Goals as goal
+
+pub returns-in_default : goal.returns-in_default
+unfolding link_answer
+returns-in_default c = rw c.in_default.is
+
+pub returns-then-count-link : goal.returns-then-count-link
+unfolding link_answer
+returns-then-count-link c = simp (c.in-Accepted.is, le-ltb _ _ c.if-count-link.true) c.refused.ensures
+
+pub returns : goal.returns
+unfolding link_answer
+returns c = simp (c.in-Accepted.is, lt-ltb _ _ c.if-count-link.false)

@@ -1,0 +1,11 @@
+-- `searches::lowest_busy` meets its contract. After the blocks the loop keeps that none from `from` on and below i is under way.
+use Prim.Native.Nat.{◌-◌, ◌≤◌}
+use Rattle.flood.specs.Lent.{busy_from}
+use Rattle.searches.specs.Scan.{Passed}
+use Rattle.searches.proofs.lowest_busy.Given as goal
+
+abbrev pub invariant-loop-i : goal.invariant-loop-i
+invariant-loop-i l = (l.from ≤ l.i) × Passed (busy_from l.states l.from) l.links l.i
+
+abbrev pub decreases-loop-i : goal.decreases-loop-i
+decreases-loop-i l = l.links - l.i
