@@ -3,8 +3,8 @@ ghost use Rattle.std.specs.Prelude.{◌≤◌};
 
 use crate::job::print_answer;
 use collection::Collected;
-use streams::print::STDOUT_FILENO;
 use mesh::{Answer, Mesh};
+use streams::print::STDOUT_FILENO;
 
 // The entries of the longest route, that over 64 nodes.
 const MOST_ENTRIES: usize = 127;

@@ -1,9 +1,9 @@
 // The jobs.
 use crate::{collections, sessions};
 use codec::{Decoded, LONGEST_BOOK};
-use streams::print::STDOUT_FILENO;
 use mesh::{Answer, Mesh};
 use planner::Planned;
+use streams::print::STDOUT_FILENO;
 
 fn two(low: u8, high: u8) -> u16 {
     low as u16 + 256 * (high as u16)

@@ -1,10 +1,10 @@
 // Jobs on a session: a cut of the last link, and the others on a session in which it was just cut. A delivery and a status are wavelength 1's.
 use crate::floods::{FIRST, lowest_of_first, second_at_rest};
 use crate::job::{print_answer, with_length};
-use streams::print::STDOUT_FILENO;
 use mesh::{Answer, Mesh};
 use metres::Length;
 use recovery::{Change, Delivered, Delivery, Report, Run, Session, Status};
+use streams::print::STDOUT_FILENO;
 
 // The allowance of an unhindered run.
 const UNHINDERED: u32 = 4294967295;

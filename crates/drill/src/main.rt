@@ -7,8 +7,7 @@ mod book;
 use book::write_drill;
 use streams::held::write;
 use streams::input::read_input;
-use streams::print::STDERR_FILENO;
-use streams::print::word;
+use streams::print::{STDERR_FILENO, word};
 
 // One byte more than the longest good input, two digits and a line feed: what stands past them changes nothing (`drill_long_input` in
 // crates/guarantees/specs/Main.antt).

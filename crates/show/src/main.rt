@@ -5,8 +5,7 @@
 use books::show_book;
 use codec::LONGEST_BOOK;
 use streams::input::read_input;
-use streams::print::STDERR_FILENO;
-use streams::print::line;
+use streams::print::{STDERR_FILENO, line};
 
 fn main(rt: HostRuntime) {
     // 4,096 bytes, longer than any book: what stands past them changes no answer (`long_input` in crates/guarantees/specs/Main.antt).

@@ -5,8 +5,7 @@
 use bridges::survey;
 use mesh::{Answer, Mesh};
 use streams::input::read_input;
-use streams::print::STDERR_FILENO;
-use streams::print::{answer_line, end, field, number, word};
+use streams::print::{STDERR_FILENO, answer_line, end, field, number, word};
 
 fn main(rt: HostRuntime) {
     // 4,096 bytes, longer than any book: what stands past them changes nothing (`long_input` in crates/guarantees/specs/Main.antt).
