@@ -3,8 +3,7 @@ use mathlib.Core.List.{List}
 use lib.Dec.{lit<}
 use mir.Val.{Val}
 use denote.Laws.{Is}
-use Rattle.scan.specs.Owned.{each_tells}
-use Rattle.scan.specs.Part.{length_mapped}
+use Rattle.scan.specs.Owned.{items_tell}
 use Rattle.legacy.specs.declared.OldMesh.{OldMesh}
 use Rattle.legacy.specs.Record.{zero_link}
 use Rattle.legacy.specs.WellFormed.{LinkInRange, InRange}
@@ -16,7 +15,7 @@ zero_in_range = record { low = lit< tt; high = lit< tt; length = lit< tt; pair =
 
 pub in_range : (m : OldMesh) (vs : List Val) → Is meshType.the_row m vs → InRange m
 in_range m vs owned = record {
-  entries = length_mapped _ m.links 256 owned.1.1.0.1.0.1;
-  links = each_tells linkType.the_field LinkInRange zero_link zero_in_range
+  entries = owned.1.1.0.1.0.1;
+  links = items_tell linkType.the_row LinkInRange zero_link zero_in_range
       (λ l u (_, (_, (low, (high, (length, (pair, _)))))). record { low = low.1; high = high.1; length = length.1; pair = pair.1 }) m.links _ owned.1.1.0.1.1;
 }

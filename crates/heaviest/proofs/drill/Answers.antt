@@ -19,11 +19,11 @@ pub spans-requires : goal.spans-requires
 spans-requires c = few c
 
 pub overflow_add-result : goal.overflow_add-result
-overflow_add-result c = omega (arith, few c.before)
+overflow_add-result c = omega (arith, few (goal.at.overflow_add-result c).Then-is_size)
 
 pub returns-then-is_size : goal.returns-then-is_size
 unfolding drill_of
-returns-then-is_size c = rw (fits c.before, c.spans.ensures)
+returns-then-is_size c = rw (fits (goal.at.returns-then-is_size c).Then-is_size, c.spans.ensures)
 
 pub returns : goal.returns
 unfolding drill_of
