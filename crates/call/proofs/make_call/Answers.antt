@@ -1,4 +1,5 @@
 -- `calls::make_call` meets its contract: each letter makes its own call.
+use native.Mathlib.Omega.{arith}
 use Prim.Native.Nat.{ℕ}
 use mathlib.Core.Path.{◌≡◌, sym, ◌∙◌, ap}
 use borrow.Author.Tests.{ne_eqb}
@@ -44,13 +45,12 @@ returns-in-82 c = by-letter _ _ _ c.in-82.is (c.ran.ensures ∙ ap made_run c.ru
 pub returns-in_default : goal.returns-in_default
 unfolding call_of
 returns-in_default c =
-    let other = c.in_default.rest in
     simp (
-      ne_eqb c.args.letter 67 other.0.0.0.0.0.0.1,
-      ne_eqb c.args.letter 68 other.0.0.0.0.0.1,
-      ne_eqb c.args.letter 77 other.0.0.0.0.1,
-      ne_eqb c.args.letter 99 other.0.0.0.1,
-      ne_eqb c.args.letter 100 other.0.0.1,
-      ne_eqb c.args.letter 109 other.0.1,
-      ne_eqb c.args.letter 82 other.1,
+      ne_eqb c.args.letter 67 (omega arith),
+      ne_eqb c.args.letter 68 (omega arith),
+      ne_eqb c.args.letter 77 (omega arith),
+      ne_eqb c.args.letter 99 (omega arith),
+      ne_eqb c.args.letter 100 (omega arith),
+      ne_eqb c.args.letter 109 (omega arith),
+      ne_eqb c.args.letter 82 (omega arith),
     ) (c.shown.ensures ∙ ap (λ (t : Status). made c.args.s (status_numbers t)) c.status.ensures)
