@@ -3,7 +3,6 @@ use Prim.Native.Nat.{ℕ}
 use mathlib.Core.Path.{◌≡◌, sym, ◌∙◌, ap}
 use mathlib.Core.List.{List}
 use lib.ListN.{length, take}
-use borrow.Author.Rules.{rules}
 use Rattle.mesh.specs.declared.Mesh.{Mesh}
 use Rattle.mesh.specs.declared.Answer.TheVariants.{Accepted}
 use Rattle.mesh.specs.WellFormed.{InRange}
@@ -13,26 +12,18 @@ use Rattle.depth_first.specs.Folded.{Folded}
 use Rattle.collection.specs.declared.Collected.{Collected}
 use Rattle.collection.specs.Collection.{tree_of, collected, output_after}
 use Rattle.collection.proofs.Laws.Query.{accepted_collects}
-use Rattle.clients.proofs.route.collect.Statement.{statement}
-use Rattle.clients.proofs.route.collect.Tie as tie
+use Rattle.clients.proofs.route.collect.Goals as goal
 
 -- what 02 says, in words of the result and of the output after it
 folded : (m : Mesh) → InRange m → (root : ℕ) (out : List ℕ) (r : Collected) {after : List ℕ} → r ≡ collected m root (length out) → after ≡ output_after m root out
     → r.answer ≡ Accepted → Folded (net_of m) root (tree_of m root) (take r.count after) r.tree
 folded m g root out r e o h = rw (e, o) (accepted_collects m root out g (sym (ap (λ (s : Collected). s.answer) e) ∙ h))
 
-collect-requires : tie.Need-collect-requires
-collect-requires c κs = search rules
-
-same_length : tie.Need-same-length
-same_length c = search rules
-
-returns : tie.Need-returns
+pub returns : goal.returns
 returns c =
-    let r = c.before.before.collect in
-    let s = c.before.before.before.before.before in
-    let a = s.args in
-    (r.ensures.0, (r.ensures.1, folded a.m (in_range a.m _ s.well_formed.0) a.root a.out.now r.result r.ensures.0 r.ensures.1))
-
-pub collect-spec : {M : Type 1} → statement M
-collect-spec = tie.close (tie.spec collect-requires same_length returns)
+    let r = c.collect in
+    let a = c.args in record {
+      answer = r.ensures.answer;
+      output = r.ensures.output;
+      folded = folded a.m (in_range a.m _ c.well_formed.0) a.root a.out.now r.result r.ensures.answer r.ensures.output;
+    }

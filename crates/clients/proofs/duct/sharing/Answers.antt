@@ -3,32 +3,24 @@ use Prim.Native.Nat.{ℕ}
 use mathlib.Core.Path.{◌≡◌, sym, ◌∙◌, ap}
 use mathlib.Core.List.{List}
 use lib.ListN.{length, take}
-use borrow.Author.Rules.{rules}
 use Rattle.mesh.specs.declared.Mesh.{Mesh}
 use Rattle.mesh.specs.declared.Answer.TheVariants.{Accepted}
 use Rattle.ducts.specs.declared.Shared.{Shared}
 use Rattle.ducts.specs.Sharing.{shared, output_after}
 use Rattle.ducts.specs.Meaning.{Lists}
 use Rattle.ducts.proofs.Laws.Query.{accepted_lists}
-use Rattle.clients.proofs.duct.sharing.Statement.{statement}
-use Rattle.clients.proofs.duct.sharing.Tie as tie
+use Rattle.clients.proofs.duct.sharing.Goals as goal
 
 -- what is written lists the links, in words of the result and of the output after it
 lists : (m : Mesh) (k : ℕ) (out : List ℕ) (r : Shared) {after : List ℕ} → r ≡ shared m k (length out) → after ≡ output_after m k out
     → r.answer ≡ Accepted → Lists m k (take r.count after)
 lists m k out r e o h = rw (e, o) (accepted_lists m k out (sym (ap (λ (s : Shared). s.answer) e) ∙ h))
 
-sharing-requires : tie.Need-sharing-requires
-sharing-requires c κs = search rules
-
-same_length : tie.Need-same-length
-same_length c = search rules
-
-returns : tie.Need-returns
+pub returns : goal.returns
 returns c =
-    let s = c.before.before.sharing in
-    let a = c.before.before.before.before.before.args in
-    (s.ensures.0, (s.ensures.1, lists a.m a.link a.out.now s.result s.ensures.0 s.ensures.1))
-
-pub sharing-spec : {M : Type 1} → statement M
-sharing-spec = tie.close (tie.spec sharing-requires same_length returns)
+    let s = c.sharing in
+    let a = c.args in record {
+      answer = s.ensures.answer;
+      output = s.ensures.output;
+      listed = lists a.m a.link a.out.now s.result s.ensures.answer s.ensures.output;
+    }
