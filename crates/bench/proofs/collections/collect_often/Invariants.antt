@@ -1,0 +1,10 @@
+-- `bench::collections::collect_often` is safe and ends.
+use Prim.Native.Nat.{◌+◌, ◌-◌, ◌≤◌}
+use mathlib.Core.Path.{◌≡◌}
+use Rattle.bench.proofs.collections.collect_often.Given as goal
+
+abbrev pub invariant-loop-i : goal.invariant-loop-i
+invariant-loop-i l = (l.i ≤ l.repeats + 1) × (lib.ListN.length l.out ≡ lib.ListN.length l.initial.out)
+
+abbrev pub decreases-loop-i : goal.decreases-loop-i
+decreases-loop-i l = l.repeats - l.i
