@@ -1,16 +1,16 @@
 # shellcheck shell=bash
 # Sourced by the other scripts: their help, how they take a mesh, what they say where something is missing, and how they explain a refusal.
 root=$(CDPATH='' cd "$(dirname "${BASH_SOURCE[0]}")/.." && pwd)
-# folders that a script makes and removes when it ends, never ones that its caller has set, and the jobs that it runs in the background
-made='' memory='' background=''
+# a folder that a script makes and removes when it ends, never one that its caller has set, and the jobs that it runs in the background
+made='' background=''
 script=$root/scripts/${0##*/}
 
-# Ends these jobs and removes these folders when the script ends. The script's status stays what it is: under 'set -e' a command that fails here, such as
+# Ends these jobs and removes this folder when the script ends. The script's status stays what it is: under 'set -e' a command that fails here, such as
 # the end of a job that has ended, would take its place.
 leave() {
     # shellcheck disable=SC2086 # several jobs are several words
     [ -z "$background" ] || kill $background 2>/dev/null || true
-    rm -rf "$made" "$memory" || true
+    rm -rf "$made" || true
 }
 
 # Answers --help, by the script's head comment, and --version, by the file VERSION, among a script's arguments, and ends the script.
@@ -116,7 +116,8 @@ take_mesh_or_bytes() {
 }
 
 # Runs a program of crates/ on standard input, proved and built. With COVETUREEN_PROGRAMS=reference the second implementation takes its place: so the
-# gate tests what the scripts make of a program's lines before any program is proved.
+# gate tests what the scripts make of a program's lines before any program is proved. With COVETUREEN_PROGRAMS=built it is the program that stands in
+# crates/, as rt ci has just proved and built it.
 program() {
     prepare "$1"
     run_program "$1"
@@ -124,40 +125,18 @@ program() {
 
 # The two halves of that, for a program that is run more than once.
 prepare() {
-    [ "${COVETUREEN_PROGRAMS-}" = reference ] || "$root/scripts/prove" "$1" </dev/null
+    case ${COVETUREEN_PROGRAMS-} in
+    reference) ;;
+    built) [ -x "$root/crates/$1/out/$1" ] || fail "crates/$1/out/$1 is not built" ;;
+    *) "$root/scripts/prove" "$1" </dev/null ;;
+    esac
 }
 run_program() {
     if [ "${COVETUREEN_PROGRAMS-}" = reference ]; then
         "$root/scripts/reference" "$1"
     else
-        "$root/target/bin/$1"
+        "$root/crates/$1/out/$1"
     fi
-}
-
-# Has temporary files written to memory until the script ends, where /dev/shm has room for them and programs can be run from there: a check
-# writes thousands of small files, which takes up to two seconds on a disk and a quarter of a second in memory. `nobody` has to reach the
-# folder, since rt runs programs as that user. A TMPDIR that is set stays.
-use_memory() {
-    local free
-    [ -z "${TMPDIR-}" ] || return 0
-    free=$(df -Pk /dev/shm 2>/dev/null | awk 'NR == 2 { print $4 }')
-    [ "${free:-0}" -ge 2097152 ] || return 0
-    memory=$(mktemp -d /dev/shm/covetureen.XXXXXX 2>/dev/null) || return 0
-    trap leave EXIT
-    cp "$(command -v env)" "$memory/tried" && "$memory/tried" true 2>/dev/null || return 0
-    chmod 755 "$memory"
-    export TMPDIR=$memory
-}
-
-# Takes over what is proved in target/ of the crates that another repository lists, so that rt does not prove it there again.
-take_proved() {
-    local name
-    mkdir -p "$1/target/rlib" "$1/target/stamp"
-    for name in $(sed -n 's/^\([a-z0-9_]*\):.*/\1/p' "$1/crates.txt"); do
-        [ -f "$root/target/stamp/$name" ] && [ -d "$root/target/rlib/$name.rlib" ] || continue
-        cp -R "$root/target/rlib/$name.rlib" "$1/target/rlib"
-        cp "$root/target/stamp/$name" "$1/target/stamp"
-    done
 }
 
 # The lines with data of a table, each after its line number: the first has the nodes, and the one after it link 0. A book has none.

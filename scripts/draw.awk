@@ -18,11 +18,12 @@ function title_width() {
     return slide ? 76 : 150
 }
 # Links with the same ends are set apart by `nodesep`, as curves beside each other. This holds where lines are not led round nodes; so with such links all
-# lines go straight, and above the nodes that they pass. `sep` keeps nodes apart by more than a link's number and two arrow heads take.
+# lines go straight, and above the nodes that they pass. On a slide, and where the drawing at hand sets `spread`, `sep` keeps nodes apart by more than a
+# link's number and two arrow heads take.
 function begin_drawing(words) {
     title = wrapped(ENVIRON["name"] ": " counted(nodes, "node", "nodes") ", " counted(links, "link", "links") words, title_width()) title
     print "digraph " quoted(ENVIRON["name"]) " {"
-    print "  layout=neato; overlap=scale; sep=\"+" (slide ? 34 : 26) "\"; esep=\"+" (slide ? 12 : 8) "\"; " \
+    print "  layout=neato; overlap=scale; " (slide ? "sep=\"+34\"; esep=\"+12\"; " : spread ? "sep=\"+26\"; esep=\"+8\"; " : "") \
         (most_beside > 1 ? "splines=line; nodesep=" (slide ? 0.6 : 0.4) "; outputorder=nodesfirst" : "splines=true; outputorder=edgesfirst") \
         "; start=1; fontname=Helvetica; fontsize=" (slide ? 22 : 13) "; labelloc=t"
     if (slide) print "  size=\"13.33,7.5!\"; viewport=\"960,540\"; pad=0.2" (all_placed() ? "" : "; ratio=fill")

@@ -2,18 +2,19 @@
 $1 == "nodes" { nodes = $2 }
 $1 ~ /^[0-9]+$/ { add_link($1, $2) }
 $1 == "collect" { root = $2; entries = $4 }
-# which node is met first, which second and so on
+# which node is met first, which second and so on; at most 40 entries of the route in a line of the title, and on a slide as many as it has room for
 $1 == "route" {
     for (i = 2; i <= NF; i++) {
         if (!($i in met)) met[$i] = ++count
-        route = route (i > 2 ? " " : "") $i
+        route = route (i == 2 ? "" : i % 40 == 2 && !slide ? "\n" : " ") $i
     }
 }
 $1 == "link" { in_tree[$2] = 1 }
 END {
     add_title("collection route from node " root ", " counted(entries, "entry", "entries") \
         ": its tree (blue, outward direction), and the order in which it meets the nodes")
-    add_title(route)
+    lines = split(route, line, "\n")
+    for (i = 1; i <= lines; i++) add_title(line[i])
     begin_drawing(" (dashed: not in the tree)")
     for (node = 0; node < nodes; node++) draw_node(node, node == root ? "root" : "", ordinal(met[node]), "")
     draw_links()

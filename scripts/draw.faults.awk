@@ -1,6 +1,9 @@
 # Turns site comments, a table's other lines and the lines of survey into a drawing of a mesh that planning refuses, after draw.awk: each part but that of
 # node 0 filled with one of five colours and with red outlines, and the bridging links red and bold.
-BEGIN { split("#ffe8bf #d8ecd3 #e6daf0 #d9ecf7 #f0e0d6", fill, " ") }
+BEGIN {
+    split("#ffe8bf #d8ecd3 #e6daf0 #d9ecf7 #f0e0d6", fill, " ")
+    spread = 1
+}
 $1 == "nodes" { nodes = $2 }
 $1 ~ /^[0-9]+$/ { add_link($1, $2) }
 $1 == "part" {

@@ -1,13 +1,18 @@
 # Turns site comments and a listing of meshplan into a drawing, after draw.awk. `cut` in the environment is a link or empty; with `near` only its route
 # and what is next to it are drawn.
-BEGIN { x = y = -1; cut = ENVIRON["cut"]; near = ENVIRON["near"] != "" }
+BEGIN { x = y = -1; cut = ENVIRON["cut"]; near = spread = ENVIRON["near"] != "" }
 $1 == "mesh" { nodes = $2 }
 $1 == "link" { add_link($3, $4); direction[$2] = $5 }
 $1 == "cut" && $2 == cut && cut != "" {
     x = $3; y = $4
     for (i = 7; i <= NF; i++) on_route[$i] = 1
-    add_title("link " cut " cut (red), at rest after " counted($5, "delivery", "deliveries"))
-    add_title("route of " counted(NF - 6, "link", "links") ", " in_metres($6) " (blue, back-up direction)")
+    rest = "link " cut " cut (red), at rest after " counted($5, "delivery", "deliveries")
+    route = "route of " counted(NF - 6, "link", "links") ", "
+    colours = " (blue, back-up direction)"
+    if (slide || near) {
+        add_title(rest)
+        add_title(route in_metres($6) colours)
+    } else add_title(rest " with a " route ($6 == "-" ? in_metres($6) : $6 " metres") colours)
 }
 END {
     if (near) leave_out()
