@@ -8,8 +8,7 @@ use crate::entries::{duct_of, link_of};
 use mesh::Answer;
 
 // Reads a book: 0 where it is accepted, else the number of the refusal, with its place.
-#[unsafe(no_mangle)]
-pub extern "C" fn covetureen_check(book: &[u8], place: &mut usize) -> u8
+pub fn covetureen_check(book: &[u8], place: &mut usize) -> u8
     ensures number { result ≡ number_of (read_answer book.now) }
     ensures place { place.new ≡ place_of (read_answer book.now) }
 {
@@ -19,13 +18,7 @@ pub extern "C" fn covetureen_check(book: &[u8], place: &mut usize) -> u8
 }
 
 // How many nodes and links the mesh of a book has.
-#[unsafe(no_mangle)]
-pub extern "C" fn covetureen_mesh(
-    book: &[u8],
-    nodes: &mut u8,
-    links: &mut u16,
-    place: &mut usize,
-) -> u8
+pub fn covetureen_mesh(book: &[u8], nodes: &mut u8, links: &mut u16, place: &mut usize) -> u8
     ensures number { result ≡ number_of (read_answer book.now) }
     ensures nodes { nodes.new ≡ lent_as (read_answer book.now) (mesh_in book.now).nodes nodes.old }
     ensures links { links.new ≡ lent_as (read_answer book.now) (mesh_in book.now).count links.old }
@@ -43,8 +36,7 @@ pub extern "C" fn covetureen_mesh(
 }
 
 // A link of the mesh of a book: its ends, its length, its fibre pair and its duct.
-#[unsafe(no_mangle)]
-pub extern "C" fn covetureen_link(
+pub fn covetureen_link(
     book: &[u8],
     link: u16,
     low: &mut u8,
@@ -79,8 +71,7 @@ pub extern "C" fn covetureen_link(
 }
 
 // The plan of the mesh of a book: a direction for each link, 0 from its low to its high end and 1 from its high to its low end, and 0 past the last link.
-#[unsafe(no_mangle)]
-pub extern "C" fn covetureen_plan(book: &[u8], directions: &mut [u8; 256], place: &mut usize) -> u8
+pub fn covetureen_plan(book: &[u8], directions: &mut [u8; 256], place: &mut usize) -> u8
     ensures number { result ≡ number_of (plan_answer book.now) }
     ensures directions { directions.new ≡ lent_as (plan_answer book.now) (planned (mesh_in book.now)).plan.directions directions.old }
     ensures place { place.new ≡ place_of (plan_answer book.now) }

@@ -9,8 +9,7 @@ use one_cut::recover;
 
 // The cut of one link on the plan of a book's mesh, and an unhindered run: of wavelength 1 the links of its route from x on, zeros past them, how many they
 // are, how many deliveries were made on it, and the metres of its route, 4294967295 where they are not known.
-#[unsafe(no_mangle)]
-pub extern "C" fn covetureen_route(
+pub fn covetureen_route(
     book: &[u8],
     link: u16,
     route: &mut [u16; 256],

@@ -5,4 +5,8 @@ mod answer;
 mod book;
 mod cut;
 mod entries;
-mod queries;
+mod questions;
+
+pub use book::{covetureen_check, covetureen_link, covetureen_mesh, covetureen_plan};
+pub use cut::covetureen_route;
+pub use questions::{covetureen_collect, covetureen_ducts, covetureen_survey};

@@ -111,7 +111,8 @@ use Rattle.drilled.proofs.Laws.Calls.{outer_only, drill-calls, two_links}
 use Rattle.earlier.specs.Ordered.{strictly_follows, mesh_answer_by, decoded_by, planned_by}
 use Rattle.earlier.proofs.Laws.Now.{mesh-now, decoded-now, planned-now}
 use Rattle.earlier.proofs.Laws.Earlier.{mesh_still, mesh_exactly, decoded_still, decoded_exactly, planned_still, book-plan}
-use Rattle.doubled.proofs.Laws.Bridge.{joined-without, never_parts}
+use Rattle.doubled.proofs.Laws.Bridge.{never_parts}
+use Rattle.doubled.proofs.Laws.Parallel.{joined-without}
 use Rattle.doubled.proofs.Laws.TwoPlan.{two-planned}
 use Rattle.doubled.proofs.Laws.TwoCalls.{two-calls, two_route}
 use Rattle.guarantees.specs.DuctBench as ductRows

@@ -27,6 +27,7 @@ use Rattle.history.specs.Demand.{AtRest, ended, log}
 use Rattle.history.proofs.Laws.Kept.{cut_session, played, Since, kept-cut}
 use Rattle.history.proofs.Laws.Started.{sound, progress, ended-kept}
 use Rattle.history.proofs.Laws.Routed.{rest-seen, seen-rest, route_found}
+use Rattle.doubled.proofs.Laws.Resting.{Rests}
 use Rattle.doubled.proofs.Laws.TwoPlan.{two-accepted}
 
 -- of two links, those that are not link k, each once and at least one, are the other
@@ -39,10 +40,6 @@ the_other k h (i ∷ j ∷ p) d f l =
     let (a, m) = f i (Memᴰ.head refl) in
     let (b, n) = f j (Memᴰ.tail (Memᴰ.head refl)) in
     absurd (d.0 j (Memᴰ.head refl) (elim (ℕ_discrete i j) [ yes e ↦ e | no e ↦ absurd (n (elim (ℕ_discrete i k) [ yes q ↦ absurd (m q) | no q ↦ omega arith ])) ]))
-
--- wavelength w is at rest exactly where one of the deliveries ts is on it, and its route is the other link then
-abbrev Rests : Session → ℕ → List Turn → Wavelength → Type 0
-Rests s k ts w = (AtRest s w ↔ (length (links_on w ts) ≡ 1)) × (AtRest s w → route_of s w ≡ (1 - k) ∷ [])
 
 module _ (m : Mesh) (sized : length m.links ≡ 256) (ok : mesh_answer m ≡ Accepted) (nodes : m.nodes ≡ 2) (links : m.count ≡ 2) where
   abbrev p : Plan

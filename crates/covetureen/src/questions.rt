@@ -10,8 +10,7 @@ use mesh::Answer;
 
 // The survey of the mesh of a book: for each node the lowest node of its part, 0 past the last node, and for each link 1 where no path joins its ends without it,
 // else 0, and 0 past the last link.
-#[unsafe(no_mangle)]
-pub extern "C" fn covetureen_survey(
+pub fn covetureen_survey(
     book: &[u8],
     parts: &mut [u8; 64],
     bridges: &mut [u8; 256],
@@ -39,8 +38,7 @@ pub extern "C" fn covetureen_survey(
 }
 
 // The links that share the duct of a link, rising and that link included: a link without a duct gives itself only.
-#[unsafe(no_mangle)]
-pub extern "C" fn covetureen_ducts(
+pub fn covetureen_ducts(
     book: &[u8],
     link: u16,
     links: &mut [u16; 256],
@@ -68,8 +66,7 @@ pub extern "C" fn covetureen_ducts(
 }
 
 // The collection route from a root: its nodes, the root first and last, zeros past them, how many entries it has, and whether each link is one of its tree.
-#[unsafe(no_mangle)]
-pub extern "C" fn covetureen_collect(
+pub fn covetureen_collect(
     book: &[u8],
     root: u8,
     route: &mut [u8; 127],
