@@ -1,23 +1,25 @@
 /*
  * covetureen.h - the functions of Covetureen that need no session, for C and C++.
  *
- *     rt staticlib covetureen
- *     cc -std=c99 -I include program.c -L target/staticlib -lcovetureen
+ *     (cd crates/covetureen_c && rt lib)
+ *     cp crates/covetureen_c/out/libcovetureen_c.a libcovetureen.a
+ *     cc -std=c99 -I include program.c -L . -lcovetureen
  *
  * Each function reads a book: the bytes of a mesh's table, as scripts/book writes it from a text table. It answers 0 where it
  * accepts, else the number of the refusal, one of enum covetureen_refusal. In either case it stores the place of the refusal, 0 where
  * it accepts. Where it refuses, everything else that was lent to it holds what it held before; where it accepts, every entry of every
  * array that was lent to it is stored, also those past the last link, node or entry, as its comment says.
  *
- * All of this is proved of the functions, for every book (crates/covetureen). That these declarations are those of the functions is
- * tested by scripts/interface. What the caller has to keep, since no function can test it:
+ * All of this is proved of the functions, for every book (crates/covetureen, which crates/covetureen_c exports). That these
+ * declarations are those of the functions is tested by scripts/interface. What the caller has to keep, since no function can test it:
  *   - no pointer is null, not even that of a book of length 0;
  *   - `length` is the number of bytes that may be read at `book`, and each array has the number of entries that its declaration says;
  *   - nothing that is stored to overlaps the book or another parameter.
  * What an array or a number holds before a call is not read.
  *
  * The functions keep nothing between calls, use no heap and call nothing but memcpy and memset: any number of threads may call them at
- * the same time, with arrays of their own. A call has been seen to need 24,056 bytes of stack at most: COVETUREEN_STACK suffices.
+ * the same time, with arrays of their own. A call has been seen to need 24,056 bytes of stack at most, as an earlier kit
+ * compiled it: COVETUREEN_STACK suffices.
  */
 #ifndef COVETUREEN_H
 #define COVETUREEN_H
