@@ -1,7 +1,7 @@
 -- What one cut leads to on wavelength 1, on a mesh and its plan. Definitions only.
 use Rattle.std.specs.Prelude.{ℕ}
 use Rattle.metres.specs.declared.Length.{Length}
-use Rattle.metres.specs.declared.Length.TheVariants as length
+use Rattle.metres.specs.declared.Length.TheVariants as lengths
 use Rattle.mesh.specs.declared.Mesh.{Mesh}
 use Rattle.planner.specs.Plan.{planned}
 use Rattle.flood.specs.Topology.{had_of}
@@ -17,8 +17,8 @@ ran m k = (after_run (after_cut (started m (planned m).plan).session k).session 
 
 -- a length as a number of metres, and 4294967295 where it is not known
 abbrev pub metres_of : Length → ℕ
-metres_of (length.Metres n) = n
-metres_of length.NotKnown = 4294967295
+metres_of (lengths.Metres n) = n
+metres_of lengths.NotKnown = 4294967295
 
 -- the route length that a status gives, 0 where the status refuses
 abbrev pub status_metres : Status → ℕ
