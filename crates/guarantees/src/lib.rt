@@ -1,2 +1,2 @@
-// Theory only: the theorem page (specs/Main.antt) and the table of bench examples (specs/Bench.antt).
+// Theory only: the theorem page (proofs/Main.antt) and the table of bench examples (specs/Bench.antt).
 #![tactic(auto)]
