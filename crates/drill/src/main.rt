@@ -10,7 +10,7 @@ use streams::input::read_input;
 use streams::print::{STDERR_FILENO, word};
 
 // One byte more than the longest good input, two digits and a line feed: what stands past them changes nothing (`drill_long_input` in
-// crates/guarantees/specs/Main.antt).
+// crates/guarantees/proofs/Main.antt).
 const MOST_INPUT: usize = 4;
 
 fn main(rt: HostRuntime) {

@@ -8,7 +8,7 @@ use streams::input::read_input;
 use streams::print::{STDERR_FILENO, answer_line, end, field, number, word};
 
 fn main(rt: HostRuntime) {
-    // 4,096 bytes, longer than any book: what stands past them changes nothing (`long_input` in crates/guarantees/specs/Main.antt).
+    // 4,096 bytes, longer than any book: what stands past them changes nothing (`long_input` in crates/guarantees/proofs/Main.antt).
     let mut book = io::buffer();
     let came = read_input(&mut rt.stdin(), &mut book);
     if came.failed {
