@@ -193,7 +193,7 @@ fn write_meshplan() -> io::Result<()> {
 
 /// A table that is not a mesh is answered on stderr, with nothing on stdout.
 fn write_book(name: Option<&str>) -> io::Result<ExitCode> {
-    match table::read(&read_text()?) {
+    match table::read_remarked(&read_text()?) {
         Ok(mesh) => finish_with(&bytes_of(&mesh)),
         Err(fault) => Ok(faulty(name, &fault)),
     }

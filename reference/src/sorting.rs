@@ -134,7 +134,7 @@ fn turned_round(line: &str) -> String {
 #[cfg(test)]
 mod tests {
     use super::*;
-    use crate::table::read;
+    use crate::table::read_remarked;
 
     fn assert_sorted(table: &str, expected: &str, numbers: &[(usize, bool)]) {
         let (text, moves) = sorted(table).unwrap();
@@ -144,7 +144,7 @@ mod tests {
             .map(|moved| (moved.new, moved.turned))
             .collect();
         assert_eq!(found, numbers);
-        assert!(read(&text).is_ok());
+        assert!(read_remarked(&text).is_ok());
     }
 
     #[test]

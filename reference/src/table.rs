@@ -32,9 +32,25 @@ impl Fault {
     }
 }
 
-/// Reads a table; the fault is that of the first line with one.
+/// Reads a table in which whole lines alone are comments, those that begin with
+/// `#`; the fault is that of the first line with one.
 pub fn read(table: &str) -> Result<Mesh, Fault> {
-    let mut lines = lines(table);
+    let split = table.lines().map(|line| line.split_whitespace().collect());
+    let numbered = (1..).zip(split);
+    read_lines(numbered.filter(|(_, words): &(usize, Vec<&str>)| {
+        let first = words.first();
+        first.is_some_and(|word| !word.starts_with('#'))
+    }))
+}
+
+/// Reads a table as people write it, with comments at the ends of lines and a
+/// byte order mark.
+pub fn read_remarked(table: &str) -> Result<Mesh, Fault> {
+    read_lines(lines(table))
+}
+
+/// The mesh of the lines with data.
+fn read_lines<'a>(mut lines: impl Iterator<Item = (usize, Vec<&'a str>)>) -> Result<Mesh, Fault> {
     let (line, words) = lines.next().unwrap_or((1, Vec::new()));
     let nodes = nodes_of(&words).map_err(|reason| Fault { line, reason })?;
     let mut links: Vec<Link> = Vec::new();
@@ -224,9 +240,9 @@ mod tests {
     fn a_comment_can_stand_at_the_end_of_a_line() {
         let text = "nodes 4 # a mesh\n0 1 850 101 7 # main trunk\n0 3 65535# 9\n\
             1 2 0 4294967295 ## 7 # 8\n2 3 0 0 65535 #";
-        assert_eq!(read(text), Ok(MEASURED));
+        assert_eq!(read_remarked(text), Ok(MEASURED));
         let short = "nodes 4\n0 # 1\n";
-        assert!(read(short)
+        assert!(read_remarked(short)
             .unwrap_err()
             .reason
             .ends_with("here are 1 words"));
@@ -236,9 +252,11 @@ mod tests {
     fn a_byte_order_mark_and_carriage_returns_do_not_count() {
         let text = "\u{feff}nodes\t4\r\n\r\n0\t1\t850 101 7\r\n0 3 65535\r\n\
             1 2 0 4294967295 # duct\r\n2 3 0 0 65535\r\n";
-        assert_eq!(read(text), Ok(MEASURED));
+        assert_eq!(read_remarked(text), Ok(MEASURED));
         assert_eq!(
-            read(&format!("\u{feff}# a mesh\n{text}")).unwrap_err().line,
+            read_remarked(&format!("\u{feff}# a mesh\n{text}"))
+                .unwrap_err()
+                .line,
             2
         );
     }
@@ -340,10 +358,7 @@ mod tests {
             ("nodes 5", "low end `nodes` is not a decimal number"),
             ("+0 2", "low end `+0` is not a decimal number"),
             ("0 2 1.5", "length `1.5` is not a decimal number"),
-            (
-                "0 2 10 \u{a0}",
-                "fibre pair `\u{a0}` is not a decimal number",
-            ),
+            ("0 2 10 #", "fibre pair `#` is not a decimal number"),
             ("0 65536", "high end 65536 is too large, the most is 65535"),
             ("0 2 65536", "length 65536 is too large, the most is 65535"),
             (
@@ -362,7 +377,7 @@ mod tests {
 
     #[test]
     fn names_the_line_with_too_few_or_too_many_words() {
-        for (line, words) in [("2", 1), ("0 2 1 1 1 1", 6), ("0 2 1 1 1 1 # new", 6)] {
+        for (line, words) in [("2", 1), ("0 2 1 1 1 1", 6), ("0 2 1 1 1 # new", 7)] {
             let expected = format!(
                 "line 2: a link is `low high length pair duct`, the last one, two or \
                  three left out where they are 0; here are {words} words"
