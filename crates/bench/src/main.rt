@@ -6,6 +6,7 @@
 mod collections;
 mod floods;
 mod job;
+mod repeats;
 mod sessions;
 
 use codec::LONGEST_BOOK;
@@ -16,8 +17,8 @@ fn main() {
     if io::read_full(STDIN_FILENO, &mut head) < 5 {
         return;
     }
-    let repeats = job::four(head[1], head[2], head[3], head[4]);
+    let [job, a, b, c, d] = head;
     let mut space = [0u8; LONGEST_BOOK + 1];
     let length = io::read_full(STDIN_FILENO, &mut space);
-    job::run(head[0], repeats, &mut space[..length]);
+    job::run(job, u32::from_le_bytes([a, b, c, d]), &mut space[..length]);
 }

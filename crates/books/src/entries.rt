@@ -1,42 +1,48 @@
 // The entries of a mesh record: a line for each link, and a count of the others that are not all zero.
-ghost use Rattle.std.specs.Prelude.{◌≤◌};
+ghost use Rattle.std.specs.Prelude.{◌≡◌, ◌&&◌, eqb, not, count_by, drop};
+ghost use Rattle.std.specs.List.{zip};
+ghost use Rattle.mesh.specs.Mesh.{is_zero};
 
 use mesh::{Link, Mesh};
 use streams::print::{end, field, number};
 
-// A line for each link; how many entries past the last link are not all zero.
-pub(crate) fn show_links(m: Mesh) -> u64 {
-    let count = m.count as usize;
-    let mut rest: usize = 0;
-    let mut i: usize = 0;
-    while i < 256 {
-        let l = m.links[i];
-        let duct = m.ducts[i];
-        rest += show_entry(i, count, l, duct);
-        i += 1;
+// A line for each link.
+pub(crate) fn show_links(m: &Mesh) {
+    for k in 0..m.count.min(256) {
+        show_link(m, k);
     }
-    rest as u64
 }
 
-// The line of entry i where it is a link; 1 for one past the last link that is not all zero, else 0.
-fn show_entry(i: usize, count: usize, l: Link, duct: u16) -> usize
-    ensures { result ≤ 1 }
+// How many entries past the last link are not all zero.
+pub(crate) fn count_rest(m: &Mesh) -> usize
+    ensures { result ≡ count_by (λ e. not (is_zero e.0 && eqb e.1 0)) (drop m.now.count (zip m.now.links m.now.ducts)) }
 {
-    if i < count {
-        show_link(i as u64, l, duct);
-        return 0;
-    }
-    let sum = l.low as u64 + l.high as u64 + l.length as u64 + l.pair as u64 + duct as u64;
-    if sum == 0 { 0 } else { 1 }
+    m.links
+        .iter()
+        .zip(m.ducts.iter())
+        .skip(m.count as usize)
+        .filter(|(l, duct)| !is_unused(l, **duct))
+        .count()
 }
 
-// The line of link i, which has this duct.
-pub fn show_link(i: u64, l: Link, duct: u16) {
-    field(b"link", i);
+// Whether an entry is all zero.
+fn is_unused(l: &Link, duct: u16) -> bool
+    ensures { result ≡ (is_zero l.now && eqb duct 0) }
+{
+    l.low == 0 && l.high == 0 && l.length == 0 && l.pair == 0 && duct == 0
+}
+
+// The line of link k; none past the last entry.
+pub fn show_link(m: &Mesh, k: u16) {
+    if 255 < k {
+        return;
+    }
+    let l = m.links[k as usize];
+    field(b"link", k as u64);
     number(l.low as u64);
     number(l.high as u64);
     number(l.length as u64);
     number(l.pair as u64);
-    number(duct as u64);
+    number(m.ducts[k as usize] as u64);
     end();
 }

@@ -2,9 +2,10 @@
 #![tactic(auto)]
 
 pub mod entries;
+pub mod read;
 pub mod written;
 
-use crate::entries::show_links;
+use crate::entries::{count_rest, show_links};
 use crate::written::show_rewritten;
 use mesh::Mesh;
 use streams::print::{answer_line, end, field, hex, line, number};
@@ -12,10 +13,8 @@ use streams::print::{answer_line, end, field, hex, line, number};
 // Decodes the book, encodes its mesh again into `room` bytes, and shows the record of one link.
 pub fn show_book(book: &[u8], room: usize, link: u16) {
     let d = codec::decode(book);
-    let a = d.answer;
-    answer_line(b"read", a);
-    let m = d.mesh;
-    show_mesh(m);
+    answer_line(b"read", d.answer);
+    show_mesh(&d.mesh);
     show_rewritten(book, room);
     show_record(book, link);
 }
@@ -25,9 +24,10 @@ fn show_record(book: &[u8], link: u16) {
     hex(b"part", codec::record_bytes(book, link));
 }
 
-fn show_mesh(m: Mesh) {
+fn show_mesh(m: &Mesh) {
     field(b"mesh", m.nodes as u64);
     number(m.count as u64);
     end();
-    line(b"rest", show_links(m));
+    show_links(m);
+    line(b"rest", count_rest(m) as u64);
 }

@@ -9,38 +9,28 @@ pub const MOST_BYTES: usize = 2900;
 
 // Checks m, encodes it into `room` bytes a5, at most 2,900, and shows them afterwards.
 pub fn show_written(m: Mesh, room: usize) {
-    let mut space = [0xa5u8; MOST_BYTES];
-    write_into(m, &mut space, room);
-}
-
-fn write_into(m: Mesh, out: &mut [u8], room: usize) {
-    if room <= out.len() {
-        let r = reread(m, &mut out[0..room]);
-        let checking = r.checking;
-        answer_line(b"check", checking);
-        let writing = r.writing;
-        show_encoded(writing);
-        hex(b"out", &out[0..room]);
-    }
+    show_output(room, |out| {
+        let r = reread(m, out);
+        answer_line(b"check", r.checking);
+        r.writing
+    });
 }
 
 // Decodes the book and encodes its mesh in the same way.
 pub(crate) fn show_rewritten(book: &[u8], room: usize) {
+    show_output(room, |out| rewrite(book, out).writing);
+}
+
+// What a call gives that writes into so many bytes, and these bytes afterwards.
+fn show_output<F: FnOnce(&mut [u8]) -> Encoded>(room: usize, write: F)
+    requires { F.IsAlwaysCallable write }
+{
     let mut space = [0xa5u8; MOST_BYTES];
-    rewrite_into(book, &mut space, room);
-}
-
-fn rewrite_into(book: &[u8], out: &mut [u8], room: usize) {
-    if room <= out.len() {
-        let r = rewrite(book, &mut out[0..room]);
-        let writing = r.writing;
-        show_encoded(writing);
-        hex(b"out", &out[0..room]);
+    if room <= MOST_BYTES {
+        let out = &mut space[..room];
+        let e = write(out);
+        answer_line(b"write", e.answer);
+        line(b"length", e.length as u64);
+        hex(b"out", out);
     }
-}
-
-fn show_encoded(e: Encoded) {
-    let a = e.answer;
-    answer_line(b"write", a);
-    line(b"length", e.length as u64);
 }

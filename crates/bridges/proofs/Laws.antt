@@ -1,4 +1,3 @@
-pub mod Ways
 pub mod Parts
 pub mod Bridges
 pub mod Outcome

@@ -4,8 +4,7 @@ use Rattle.scan.specs.Entry.{at}
 use Rattle.scan.specs.Lowest.{lowest, any}
 use Rattle.graph.specs.Net.{Net, Leads, both_ways, without}
 use Rattle.mesh.specs.declared.Mesh.{Mesh}
-use Rattle.mesh.specs.declared.Answer.{Answer}
-use Rattle.mesh.specs.declared.Answer.TheVariants.{Accepted}
+use Rattle.mesh.specs.Answer.{Answer, Accepted}
 use Rattle.mesh.specs.Mesh.{must, and_then}
 use Rattle.bridges.specs.declared.Surveyed.{Surveyed}
 

@@ -1,5 +1,5 @@
 -- The survey of a mesh: its parts and its bridging links, all that stands behind refusals 20 and 21 (01, "Refusals from the input"). Definitions only.
-use Rattle.std.specs.Prelude.{ℕ, List, replicate}
+use Rattle.std.specs.Prelude.{ℕ, List, replicate, Err}
 use Rattle.scan.specs.Lowest.{lowest}
 use Rattle.scan.specs.Fill.{filled}
 use Rattle.scan.specs.Total.{bit}
@@ -7,8 +7,7 @@ use Rattle.graph.specs.Net.{Net, both_ways}
 use Rattle.graph.specs.Reach.{reaches}
 use Rattle.graph.specs.Greedy.{bridge}
 use Rattle.mesh.specs.declared.Mesh.{Mesh}
-use Rattle.mesh.specs.declared.Answer.{Answer}
-use Rattle.mesh.specs.declared.Answer.TheVariants.{Accepted, Refused}
+use Rattle.mesh.specs.Answer.{Answer, Accepted, Refused}
 use Rattle.mesh.specs.Mesh.{mesh_answer}
 use Rattle.nets.specs.Nets.{net_of}
 use Rattle.bridges.specs.declared.Surveyed.{Surveyed}
@@ -36,7 +35,7 @@ bridges_of m = bridges_by (net_of m)
 
 abbrev pub surveyed_as : Answer → List ℕ → List ℕ → Surveyed
 surveyed_as Accepted parts bridges = record { parts = parts; bridges = bridges; answer = Accepted }
-surveyed_as (Refused number place) parts bridges = record { parts = no_parts; bridges = no_bridges; answer = Refused number place }
+surveyed_as (Err r) parts bridges = record { parts = no_parts; bridges = no_bridges; answer = Refused r.number r.place }
 
 -- the mesh checks' answer, the parts and the bridges; all zeros on a refusal
 unfoldable pub surveyed : Mesh → Surveyed

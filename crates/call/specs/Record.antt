@@ -1,19 +1,16 @@
 -- Answers as numbers: 01's number and values for each case of the answers' enums. Definitions only.
-use Rattle.std.specs.Prelude.{ℕ}
+use Rattle.std.specs.Prelude.{ℕ, Err, Ok}
 use Rattle.scan.specs.Total.{bit}
-use Rattle.mesh.specs.declared.Answer.{Answer}
-use Rattle.mesh.specs.declared.Answer.TheVariants.{Accepted, Refused}
-use Rattle.metres.specs.declared.Length.TheVariants as lengths
+use Rattle.mesh.specs.Answer.{Answer, Accepted, Refused}
+use Rattle.metres.specs.Known.{Length, Metres, NotKnown}
 use Rattle.recovery.specs.declared.Session.{Session}
 use Rattle.recovery.specs.declared.Change.{Change}
 use Rattle.recovery.specs.declared.Delivery.{Delivery}
 use Rattle.recovery.specs.declared.Run.{Run}
 use Rattle.recovery.specs.declared.Delivered.{Delivered}
 use Rattle.recovery.specs.declared.Delivered.TheVariants as delivered
-use Rattle.recovery.specs.declared.Report.{Report}
-use Rattle.recovery.specs.declared.Report.TheVariants as report
-use Rattle.recovery.specs.declared.Status.{Status}
-use Rattle.recovery.specs.declared.Status.TheVariants as statuses
+use Rattle.recovery.specs.Answers.{Report, Status}
+use Rattle.recovery.specs.Answers as outcomes
 use Rattle.history.specs.History.{Call, Reply, cut, deliver, run, mend, status, reply, next}
 use Rattle.call.specs.declared.Numbers.{Numbers}
 use Rattle.call.specs.declared.Made.{Made}
@@ -29,7 +26,7 @@ refusal_numbers number place = numbers 0 number place 0
 
 abbrev pub change_numbers : Answer → Numbers
 change_numbers Accepted = numbers 1 0 0 0
-change_numbers (Refused number place) = refusal_numbers number place
+change_numbers (Err r) = refusal_numbers r.number r.place
 
 abbrev pub delivered_numbers : Delivered → Numbers
 delivered_numbers (delivered.Taken v) = numbers 2 v 0 0
@@ -38,13 +35,16 @@ delivered_numbers (delivered.Released v) = numbers 4 v 0 0
 delivered_numbers (delivered.Refused number place) = refusal_numbers number place
 
 abbrev pub report_numbers : Report → Numbers
-report_numbers (report.Made count rest) = numbers 5 count (bit rest) 0
-report_numbers (report.Refused number place) = refusal_numbers number place
+report_numbers (Ok o) = numbers 5 o.made (bit o.rest) 0
+report_numbers (Err r) = refusal_numbers r.number r.place
+
+abbrev pub link_numbers : ℕ → ℕ → Length → Numbers
+link_numbers state under_way (Metres n) = numbers 6 state under_way n
+link_numbers state under_way NotKnown = numbers 7 state under_way 0
 
 abbrev pub status_numbers : Status → Numbers
-status_numbers (statuses.Link state under_way (lengths.Metres n)) = numbers 6 state under_way n
-status_numbers (statuses.Link state under_way lengths.NotKnown) = numbers 7 state under_way 0
-status_numbers (statuses.Refused number place) = refusal_numbers number place
+status_numbers (Ok l) = link_numbers l.state l.under_way l.route
+status_numbers (Err r) = refusal_numbers r.number r.place
 
 -- the numbers of a call's answer
 abbrev pub reply_numbers : (c : Call) → Reply c → Numbers

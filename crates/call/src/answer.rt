@@ -1,105 +1,87 @@
 // Answers as numbers.
 ghost use Rattle.std.specs.Prelude.{◌≡◌};
-ghost use Rattle.scan.specs.Total.{bit};
 ghost use Rattle.call.specs.Record.{numbers, refusal_numbers, change_numbers, delivered_numbers, report_numbers, status_numbers};
 
 use crate::Numbers;
-use mesh::Answer;
-use metres::Length;
-use recovery::{Delivered, Report, Status};
+use flooding::running::Outcome;
+use mesh::Reason;
+use recovery::Delivered;
+use status::LinkStatus;
 
-fn refusal(number: u8, place: usize) -> Numbers
-    ensures { result ≡ refusal_numbers number place }
-{
-    Numbers {
-        case: 0,
-        first: number as u64,
-        second: place as u64,
-        third: 0,
+impl Numbers {
+    fn new(case: u64, first: u64, second: u64, third: u64) -> Numbers
+        ensures { result ≡ numbers case first second third }
+    {
+        Numbers {
+            case,
+            first,
+            second,
+            third,
+        }
+    }
+
+    fn refusal(number: u8, place: usize) -> Numbers
+        ensures { result ≡ refusal_numbers number place }
+    {
+        Numbers::new(0, u64::from(number), place as u64, 0)
     }
 }
 
-fn of_node(case: u64, node: u8) -> Numbers
-    ensures { result ≡ numbers case node 0 0 }
-{
-    Numbers {
-        case,
-        first: node as u64,
-        second: 0,
-        third: 0,
+impl From<Result<(), Reason>> for Numbers {
+    ghost from_gives = { λ a n. n ≡ change_numbers a };
+
+    fn from(a: Result<(), Reason>) -> Numbers {
+        match a {
+            Ok(()) => Numbers::new(1, 0, 0, 0),
+            Err(Reason { number, place }) => Numbers::refusal(number, place),
+        }
     }
 }
 
-pub(crate) fn of_change(a: Answer) -> Numbers
-    ensures { result ≡ change_numbers a }
-{
-    match a {
-        Answer::Accepted => of_node(1, 0),
-        Answer::Refused { number, place } => refusal(number, place),
+impl From<Delivered> for Numbers {
+    ghost from_gives = { λ d n. n ≡ delivered_numbers d };
+
+    fn from(d: Delivered) -> Numbers {
+        match d {
+            Delivered::Taken(v) => Numbers::new(2, u64::from(v), 0, 0),
+            Delivered::TurnedBack(v) => Numbers::new(3, u64::from(v), 0, 0),
+            Delivered::Released(v) => Numbers::new(4, u64::from(v), 0, 0),
+            Delivered::Refused { number, place } => Numbers::refusal(number, place),
+        }
     }
 }
 
-pub(crate) fn of_delivered(d: Delivered) -> Numbers
-    ensures { result ≡ delivered_numbers d }
-{
-    match d {
-        Delivered::Taken(v) => of_node(2, v),
-        Delivered::TurnedBack(v) => of_node(3, v),
-        Delivered::Released(v) => of_node(4, v),
-        Delivered::Refused { number, place } => refusal(number, place),
+impl From<Result<Outcome, Reason>> for Numbers {
+    ghost from_gives = { λ r n. n ≡ report_numbers r };
+
+    fn from(r: Result<Outcome, Reason>) -> Numbers {
+        match r {
+            Ok(Outcome { made, rest }) => Numbers::new(5, u64::from(made), u64::from(rest), 0),
+            Err(Reason { number, place }) => Numbers::refusal(number, place),
+        }
     }
 }
 
-fn of_run(count: u32, rest: bool) -> Numbers
-    ensures { result ≡ numbers 5 count (bit rest) 0 }
-{
-    let second: u64 = if rest { 1 } else { 0 };
-    Numbers {
-        case: 5,
-        first: count as u64,
-        second,
-        third: 0,
-    }
-}
+impl From<Result<LinkStatus, Reason>> for Numbers {
+    ghost from_gives = { λ t n. n ≡ status_numbers t };
 
-pub(crate) fn of_report(r: Report) -> Numbers
-    ensures { result ≡ report_numbers r }
-{
-    match r {
-        Report::Made { count, rest } => of_run(count, rest),
-        Report::Refused { number, place } => refusal(number, place),
-    }
-}
-
-fn of_link(case: u64, state: u8, busy: u16, metres: u32) -> Numbers
-    ensures { result ≡ numbers case state busy metres }
-{
-    Numbers {
-        case,
-        first: state as u64,
-        second: busy as u64,
-        third: metres as u64,
-    }
-}
-
-fn of_measured(state: u8, busy: u16, route: Length) -> Numbers
-    ensures { result ≡ status_numbers (Status.Link state busy route) }
-{
-    match route {
-        Length::Metres(n) => of_link(6, state, busy, n),
-        Length::NotKnown => of_link(7, state, busy, 0),
-    }
-}
-
-pub(crate) fn of_status(t: Status) -> Numbers
-    ensures { result ≡ status_numbers t }
-{
-    match t {
-        Status::Link {
-            state,
-            under_way,
-            route,
-        } => of_measured(state, under_way, route),
-        Status::Refused { number, place } => refusal(number, place),
+    fn from(t: Result<LinkStatus, Reason>) -> Numbers {
+        match t {
+            Ok(
+                LinkStatus {
+                    state,
+                    under_way,
+                    route: Some(metres),
+                },
+            ) => Numbers::new(6, u64::from(state), u64::from(under_way), u64::from(metres)),
+            Ok(
+                LinkStatus {
+                    state,
+                    under_way,
+                    route: None,
+                },
+            ) => Numbers::new(7, u64::from(state), u64::from(under_way), 0),
+            Err(Reason { number, place }) => Numbers::refusal(number, place),
+        }
     }
 }

@@ -1,12 +1,12 @@
 -- 01's P7 on the mesh of P5 with lengths and fibre pairs, made by the calls from before wavelength 2, carried over, and let run. Definitions only; the theorem
 -- is `carried_bench` of Main.
 use Rattle.std.specs.Prelude.{ℕ, ◌≡◌, List, [], ◌∷◌, ◌++◌, replicate}
-use Rattle.metres.specs.declared.Length.TheVariants.{Metres}
-use Rattle.mesh.specs.declared.Answer.TheVariants.{Accepted}
+use Rattle.metres.specs.Known.{Metres}
+use Rattle.mesh.specs.Answer.{Accepted}
 use Rattle.wavelengths.specs.declared.Wavelength.TheVariants.{First, Second}
 use Rattle.wavelengths.specs.Merge.{turns_on}
-use Rattle.formed.specs.declared.Cut.TheVariants as cuts
-use Rattle.recovery.specs.declared.Status.TheVariants as statuses
+use Rattle.formed.specs.Cut as cuts
+use Rattle.recovery.specs.Answers as outcomes
 use Rattle.recovery.specs.Calls.{status_of, routed_as, routed}
 use Rattle.legacy.specs.declared.OldLink.{OldLink}
 use Rattle.legacy.specs.declared.OldMesh.{OldMesh}
@@ -36,12 +36,12 @@ pub record Holds : Type 0 where
   pub plans : Planned four_nodes
   -- right after the carry-over wavelength 1 has its route, no length is shown, and on wavelength 2 one link is offered
   pub route_kept : routed (upgraded four_nodes before) 1 ≡ routed_as Accepted (3 ∷ 0 ∷ 2 ∷ [])
-  pub no_length : status_of (upgraded four_nodes before) 0 1 ≡ statuses.Link 2 0 (Metres 0)
-  pub begun : status_of (upgraded four_nodes before) 2 2 ≡ statuses.Link 1 1 (Metres 0)
+  pub no_length : status_of (upgraded four_nodes before) 0 1 ≡ outcomes.Link 2 0 (Metres 0)
+  pub begun : status_of (upgraded four_nodes before) 2 2 ≡ outcomes.Link 1 1 (Metres 0)
   -- the run delivers on wavelength 2 alone
   pub delivered : log four_nodes before later
       ≡ record { cut = cuts.Link 4; made = turns_on First (3 ∷ 0 ∷ 2 ∷ 1 ∷ 1 ∷ []) ++ turns_on Second (2 ∷ 0 ∷ 1 ∷ 3 ∷ 3 ∷ 0 ∷ []) }
   -- then both wavelengths have a route and its length: 400 + 100 + 300, and 300 + 200
-  pub first-length : status_of (ended four_nodes before later) 0 1 ≡ statuses.Link 2 0 (Metres 800)
+  pub first-length : status_of (ended four_nodes before later) 0 1 ≡ outcomes.Link 2 0 (Metres 800)
   pub second_route : routed (ended four_nodes before later) 2 ≡ routed_as Accepted (2 ∷ 1 ∷ [])
-  pub second_length : status_of (ended four_nodes before later) 0 2 ≡ statuses.Link 4 0 (Metres 500)
+  pub second_length : status_of (ended four_nodes before later) 0 2 ≡ outcomes.Link 4 0 (Metres 500)

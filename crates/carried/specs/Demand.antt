@@ -1,7 +1,7 @@
 -- Demand 3 across a carry-over (02, request 3): old calls from a fresh old session on its mesh's plan, the carry-over, and calls of now behind it.
 -- Definitions only.
 use Rattle.std.specs.Prelude.{◌≡◌, List, [], ◌++◌}
-use Rattle.mesh.specs.declared.Answer.TheVariants.{Accepted}
+use Rattle.mesh.specs.Answer.{Accepted}
 use Rattle.wavelengths.specs.declared.Wavelength.TheVariants.{First, Second}
 use Rattle.wavelengths.specs.Merge.{turns_on}
 use Rattle.planner.specs.Plan.{planned}

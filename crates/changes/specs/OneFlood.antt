@@ -1,23 +1,28 @@
 -- What a delivery gives on the flood of its wavelength alone, after the answer to the record. Definitions only.
-use Rattle.std.specs.Prelude.{ℕ, ◌≡◌, List}
+use Rattle.std.specs.Prelude.{ℕ, ◌≡◌, List, Result, Ok, Err}
+use Rattle.scan.specs.Entry.{at}
 use Rattle.mesh.specs.declared.Mesh.{Mesh}
-use Rattle.mesh.specs.declared.Answer.{Answer}
-use Rattle.mesh.specs.declared.Answer.TheVariants.{Accepted, Refused}
+use Rattle.mesh.specs.declared.Reason.{Reason}
+use Rattle.mesh.specs.Answer.{Answer, Accepted}
 use Rattle.flood.specs.declared.Flood.{Flood}
+use Rattle.flood.specs.Digraph.{Digraph}
+use Rattle.flood.specs.Machine.{step}
 use Rattle.wavelengths.specs.Wavelength.{wavelength_of}
-use Rattle.formed.specs.declared.Cut.{Cut}
+use Rattle.formed.specs.Cut.{Cut}
 use Rattle.formed.specs.Formed.{cut_link}
 use Rattle.refusals.specs.Refusals.{deliver_answer}
 use Rattle.pieces.specs.Given.{Given}
 use Rattle.pieces.specs.Pieces.{digraph, lost}
-use Rattle.backup.specs.Stepped.{Stepped}
-use Rattle.changes.specs.declared.Moved.{Moved}
+use Rattle.backup.specs.declared.Acted.{Acted}
 
--- on link k and the wavelength with the number n, whose flood is f; t is the answer to the record. It leaves `got` and says r. What an accepted delivery
+-- what a delivery on link k says that leaves the flood f: the state of its link, and the nodes from which and to which it leads
+abbrev pub acted_on : Digraph → ℕ → Flood → Acted
+acted_on g k f = record { state = at f.states k; tail = g.tail k; head = g.head k }
+
+-- on link k and the wavelength with the number n, whose flood is f; t is the answer to the record. It leaves `got` and gives r. What an accepted delivery
 -- does is said of a mesh of which the count, the ends and the cut are given
-pub record OnOneFlood (t : Answer) (count : ℕ) (directions ends : List ℕ) (c : Cut) (f : Flood) (k n : ℕ) (got : Flood) (r : Moved) : Type 0 where
-  pub answer : r.answer ≡ deliver_answer t count c f.states k n
-  pub stepped : (m : Mesh) → Given m count ends (cut_link c) → r.answer ≡ Accepted
-      → Stepped (digraph m directions (wavelength_of n)) (lost m directions c (wavelength_of n)) k f got (record { state = r.state; tail = r.tail; head = r.head })
-  pub stays : {number place : ℕ} → r.answer ≡ Refused number place → got ≡ f
-  pub zeros : {number place : ℕ} → r.answer ≡ Refused number place → (r.state ≡ 0) × (r.tail ≡ 0) × (r.head ≡ 0)
+pub record OnOneFlood (t : Answer) (count : ℕ) (directions ends : List ℕ) (c : Cut) (f : Flood) (k n : ℕ) (got : Flood) (r : Result Acted Reason) : Type 0 where
+  pub refused : (why : Reason) → deliver_answer t count c f.states k n ≡ Err why → (r ≡ Err why) × (got ≡ f)
+  pub stepped : deliver_answer t count c f.states k n ≡ Accepted → (m : Mesh) → Given m count ends (cut_link c)
+      → let g = digraph m directions (wavelength_of n) in
+      (r ≡ Ok (acted_on g k got)) × (got ≡ step g (lost m directions c (wavelength_of n)) k f)

@@ -1,7 +1,7 @@
 -- Books read and written again, meshes written and read again, and one byte of a record. Definitions only.
 use Rattle.std.specs.Prelude.{ℕ, ◌≤◌, ◌≡◌, List, ◌++◌, length, get_or, take, drop}
 use Rattle.mesh.specs.declared.Mesh.{Mesh}
-use Rattle.mesh.specs.declared.Answer.TheVariants.{Accepted}
+use Rattle.mesh.specs.Answer.{Accepted}
 use Rattle.mesh.specs.Mesh.{mesh_answer}
 use Rattle.codec.specs.Book.{decoded, encoded, output_after, span_answer, record_part}
 use Rattle.clients.specs.declared.Rewritten.{Rewritten}

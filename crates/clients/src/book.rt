@@ -1,5 +1,5 @@
 // Books: read and written again, meshes written and read again, and one byte of a record.
-ghost use Rattle.std.specs.Prelude.{◌≡◌, length, get_or, take};
+ghost use Rattle.std.specs.Prelude.{◌≡◌, length, take};
 ghost use Rattle.codec.specs.Book.{decoded, output_after};
 ghost use Rattle.clients.specs.Books.{rewritten, Rewrites, reread, Rereads, record_byte};
 
@@ -14,20 +14,18 @@ pub fn rewrite(book: &[u8], out: &mut [u8]) -> Rewritten
     ensures inverse { Rewrites book.now out.old out.new }
 {
     let read = codec::decode(book);
-    let mesh = read.mesh;
-    let reading = read.answer;
-    let writing = codec::encode(mesh, out);
-    Rewritten { reading, writing }
+    let writing = codec::encode(read.mesh, out);
+    Rewritten {
+        reading: read.answer,
+        writing,
+    }
 }
 
 // Reads the book of so many bytes at the front of `out`.
 fn read_front(out: &[u8], n: usize) -> Decoded
     ensures { result ≡ decoded (take n out.now) }
 {
-    if out.len() < n {
-        return codec::decode(out);
-    }
-    codec::decode(&out[0..n])
+    codec::decode(&out[..n.min(out.len())])
 }
 
 // Checks a mesh, writes it and reads what was written: a mesh that passes the checks comes back, where there is room for its book.
@@ -46,18 +44,12 @@ pub fn reread(m: Mesh, out: &mut [u8]) -> Reread
     }
 }
 
-// The byte at index i, 0 past the end.
-fn byte_at(bytes: &[u8], i: usize) -> u8
-    ensures { result ≡ get_or bytes.now i 0 }
-{
-    if i < bytes.len() { bytes[i] } else { 0 }
-}
-
 // Byte i of a link's record, 0 past its end, and the answer to showing the record.
 pub fn record_byte(book: &[u8], link: u16, i: usize) -> RecordByte
     ensures { result ≡ record_byte book.now link i }
 {
-    let answer = codec::record_answer(book, link);
-    let byte = byte_at(codec::record_bytes(book, link), i);
-    RecordByte { byte, answer }
+    RecordByte {
+        byte: codec::record_bytes(book, link).get(i).copied().unwrap_or(0),
+        answer: codec::record_answer(book, link),
+    }
 }

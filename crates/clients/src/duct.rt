@@ -1,7 +1,8 @@
 // Ducts: the links that share the duct of a link, and the lowest link in a duct.
-ghost use Rattle.std.specs.Prelude.{◌≡◌, min, eqb, length, take};
+ghost use Rattle.std.specs.Prelude.{◌≡◌, ◌<◌, min, eqb, length, take};
+ghost use Rattle.std.specs.Option.{SomeIff};
 ghost use Rattle.scan.specs.Lowest.{lowest};
-ghost use Rattle.mesh.specs.declared.Answer.TheVariants.{Accepted};
+ghost use Rattle.mesh.specs.Answer.{Accepted};
 ghost use Rattle.mesh.specs.WellFormed;
 ghost use Rattle.ducts.specs.Sharing.{shared, output_after};
 ghost use Rattle.ducts.specs.Meaning.{Lists};
@@ -18,18 +19,16 @@ pub fn sharing(m: Mesh, link: u16, out: &mut [u16]) -> Shared
     ducts::sharing(m, link, out)
 }
 
-// The lowest link with this duct number; the number of links, at most 256, where none has it.
-pub fn lowest_in(m: Mesh, duct: u16) -> usize
-    ensures { result ≡ lowest (λ i. eqb (WellFormed.duct m i) duct) (min m.count 256) }
+// The lowest link with this duct number, where there is one.
+pub fn lowest_in(m: Mesh, duct: u16) -> Option<u16>
+    ensures { let links = min m.count 256 in
+        let k = lowest (λ i. eqb (WellFormed.duct m i) duct) links in SomeIff result (k < links) k }
 {
-    let links = states::links_of(m.count as usize);
-    let numbers = m.ducts;
-    let mut i: usize = 0;
-    while i < links {
-        if numbers[i] == duct {
-            return i;
+    let links = m.count.min(256);
+    for i in 0..links {
+        if m.ducts[usize::from(i)] == duct {
+            return Some(i);
         }
-        i += 1;
     }
-    links
+    None
 }

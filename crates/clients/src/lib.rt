@@ -8,16 +8,18 @@ pub mod route;
 pub mod session;
 
 use codec::{Decoded, Encoded};
-use mesh::{Answer, Plan};
-use recovery::{Report, Routed, Session, Status};
+use flooding::running::Outcome;
+use mesh::{Plan, Reason};
+use recovery::{Routed, Session};
+use status::LinkStatus;
 
 // What planning and starting on a mesh give.
 #[derive(Clone, Copy)]
 pub struct Begun {
     pub session: Session,
     pub plan: Plan,
-    pub planning: Answer,
-    pub starting: Answer,
+    pub planning: Result<(), Reason>,
+    pub starting: Result<(), Reason>,
 }
 
 // What a cut leads to on wavelength 1: how many deliveries of an unhindered run were made on it, what the run reports of both wavelengths, and what a status
@@ -25,29 +27,30 @@ pub struct Begun {
 #[derive(Clone, Copy)]
 pub struct Recovered {
     pub deliveries: u16,
-    pub report: Report,
-    pub status: Status,
+    pub report: Result<Outcome, Reason>,
+    pub status: Result<LinkStatus, Reason>,
     pub routed: Routed,
 }
 
 // What reading a book and writing its mesh give.
 #[derive(Clone, Copy)]
 pub struct Rewritten {
-    pub reading: Answer,
+    pub reading: Result<(), Reason>,
     pub writing: Encoded,
 }
 
 // What checking a mesh, writing it and reading what was written give.
 #[derive(Clone, Copy)]
 pub struct Reread {
-    pub checking: Answer,
+    pub checking: Result<(), Reason>,
     pub writing: Encoded,
     pub reading: Decoded,
 }
 
 // One byte of a record, and the answer to showing the record.
+// form: no Result, since the clause of `record_byte` says that the byte is 0 beside a refusal.
 #[derive(Clone, Copy)]
 pub struct RecordByte {
     pub byte: u8,
-    pub answer: Answer,
+    pub answer: Result<(), Reason>,
 }

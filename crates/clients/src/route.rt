@@ -1,6 +1,6 @@
 // The collection route: where it is accepted, all that 02 says of a route holds of what was written and of the labels.
 ghost use Rattle.std.specs.Prelude.{◌≡◌, length, take};
-ghost use Rattle.mesh.specs.declared.Answer.TheVariants.{Accepted};
+ghost use Rattle.mesh.specs.Answer.{Accepted};
 ghost use Rattle.nets.specs.Nets.{net_of};
 ghost use Rattle.depth_first.specs.Folded.{Folded};
 ghost use Rattle.collection.specs.Collection.{tree_of, collected, output_after};

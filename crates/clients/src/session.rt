@@ -8,14 +8,9 @@ ghost use Rattle.clients.specs.Sessions.{begun, recovered};
 use crate::{Begun, Recovered};
 use legacy::OldSession;
 use mesh::{Mesh, Plan};
+use one_cut::FIRST;
 use recovery::{Change, Routed, Session};
 use states::count;
-
-// The allowance of an unhindered run.
-const UNHINDERED: u32 = 4294967295;
-
-// The number of wavelength 1.
-const FIRST: u8 = 1;
 
 // A start on any mesh and plan.
 pub fn start(m: Mesh, plan: Plan) -> Change
@@ -43,16 +38,12 @@ pub fn begin(m: Mesh) -> Begun
     ensures { result ≡ begun m }
 {
     let planned = planner::plan(m);
-    let planning = planned.answer;
-    let plan = planned.plan;
-    let started = start(m, plan);
-    let session = started.session;
-    let starting = started.answer;
+    let started = start(m, planned.plan);
     Begun {
-        session,
-        plan,
-        planning,
-        starting,
+        session: started.session,
+        plan: planned.plan,
+        planning: planned.answer,
+        starting: started.answer,
     }
 }
 
@@ -62,20 +53,12 @@ pub fn recover(s: Session, link: u16) -> Recovered
     ensures value { result ≡ recovered s link }
     ensures sized { Sized s }
 {
-    let changed = s.cut(link);
-    let cut = changed.session;
-    let run = cut.run(UNHINDERED);
-    let report = run.report;
+    let run = one_cut::run(s, link);
     let ended = run.session;
-    let mesh = ended.mesh;
-    let first = ended.first;
-    let deliveries = count::deliveries(&first.states, mesh.count as usize);
-    let status = ended.status(link, FIRST);
-    let routed = route(ended, FIRST);
     Recovered {
-        deliveries,
-        report,
-        status,
-        routed,
+        deliveries: count::deliveries(&ended.first.states, usize::from(ended.mesh.count)),
+        report: run.report,
+        status: ended.status(link, FIRST),
+        routed: route(ended, FIRST),
     }
 }

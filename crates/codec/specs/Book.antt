@@ -1,10 +1,10 @@
 -- The book: what a mesh is written as, what reading gives, and the bytes of one record (01, "The book" and "Order"). Definitions only.
-use Rattle.std.specs.Prelude.{ℕ, zero, suc, ◌+◌, ◌-◌, List, [], ◌∷◌, ◌++◌, length, get_or, take, drop, replicate, ltb, eqb}
+use Rattle.std.specs.Prelude.{ℕ, zero, suc, ◌+◌, ◌-◌, List, [], ◌∷◌, ◌++◌, length, get_or, take, drop, replicate, ltb, eqb, Result, Ok, Err}
 use Rattle.scan.specs.Bytes.{number}
 use Rattle.mesh.specs.declared.Link.{Link}
 use Rattle.mesh.specs.declared.Mesh.{Mesh}
-use Rattle.mesh.specs.declared.Answer.{Answer}
-use Rattle.mesh.specs.declared.Answer.TheVariants.{Accepted, Refused}
+use Rattle.mesh.specs.declared.Reason.{Reason}
+use Rattle.mesh.specs.Answer.{Answer, Accepted, Refused}
 use Rattle.mesh.specs.Mesh.{must, and_then, zero_link, zero_mesh}
 use Rattle.codec.specs.declared.Decoded.{Decoded}
 use Rattle.codec.specs.declared.Encoded.{Encoded}
@@ -19,9 +19,13 @@ unfoldable pub use Rattle.reader.specs.Read.{header_answer}
 
 -- ---- writing
 
+abbrev pub encoded_as : Result ℕ Reason → Encoded
+encoded_as (Ok n) = record { length = n; answer = Accepted }
+encoded_as (Err r) = record { length = 0; answer = Refused r.number r.place }
+
 -- what writing m to an output of `room` bytes gives: the answer, with the length of the book where it was written and 0 on a refusal
 unfoldable pub encoded : Mesh → ℕ → Encoded
-encoded m room = record { length = (written m room).length; answer = (written m room).answer }
+encoded m room = encoded_as (written m room)
 
 -- ---- reading
 
@@ -49,7 +53,7 @@ mesh_of s = mesh_with (get_or s 1 0) (number 2 s 2) (fields_from zero_link (numb
 
 abbrev pub decoded_as : Answer → Mesh → Decoded
 decoded_as Accepted m = record { mesh = m; answer = Accepted }
-decoded_as (Refused number place) m = record { mesh = zero_mesh; answer = Refused number place }
+decoded_as (Err r) m = record { mesh = zero_mesh; answer = Refused r.number r.place }
 
 -- what reading gives: the answer and the mesh, the all-zero mesh on a refusal
 unfoldable pub decoded : List ℕ → Decoded
@@ -70,12 +74,20 @@ span_answer s k =
     Accepted)
 
 abbrev pub span_as : Answer → ℕ → ℕ → Span
-span_as Accepted start length = record { start = start; end = start + length; answer = Accepted }
-span_as (Refused number place) start length = record { start = 0; end = 0; answer = Refused number place }
+span_as Accepted start length = record { start = start; end = start + length }
+span_as (Err r) start length = record { start = 0; end = 0 }
 
--- the answer, with the record's start and end in the book, both 0 on a refusal
+-- the record's start and end in the book, both 0 on a refusal
 unfoldable pub span_of : List ℕ → ℕ → Span
 span_of s k = span_as (span_answer s k) (record_start s k) (record_length (get_or s (record_start s k) 0))
+
+abbrev pub given_as : Answer → Span → Result Span Reason
+given_as Accepted p = Ok p
+given_as (Err r) p = Err r
+
+-- the record's start and end in the book, else the refusal
+unfoldable pub span_given : List ℕ → ℕ → Result Span Reason
+span_given s k = given_as (span_answer s k) (span_of s k)
 
 -- the bytes of the record of link k as they stand in the book, the empty part on a refusal
 unfoldable pub record_part : List ℕ → ℕ → List ℕ

@@ -1,31 +1,18 @@
 // Where one link's record stands in a book.
 ghost use Rattle.std.specs.Prelude.{◌≡◌, ◌+◌, ◌≤◌, ◌<◌, length, get_or};
-ghost use Rattle.mesh.specs.declared.Answer.TheVariants.{Accepted};
+ghost use Rattle.mesh.specs.Answer.{Accepted};
 ghost use Rattle.fields.specs.Record.{record_length};
-ghost use Rattle.codec.specs.Book.{span_answer, span_of};
+ghost use Rattle.codec.specs.Book.{span_answer, span_given};
 
-use crate::decode;
+use crate::records::read_into;
 use fields::record_length;
-use mesh::Answer;
+use mesh::{Reason, zero_mesh};
 
 // Where a record stands in its book: from start up to, not including, end.
 #[derive(Clone, Copy)]
 pub(crate) struct Span {
     pub start: usize,
     pub end: usize,
-    pub answer: Answer,
-}
-
-fn refused(answer: Answer) -> Span
-    ensures start { result.start ≡ 0 }
-    ensures end { result.end ≡ 0 }
-    ensures answer { result.answer ≡ answer }
-{
-    Span {
-        start: 0,
-        end: 0,
-        answer,
-    }
 }
 
 // Where the record of link k starts in a book that has it.
@@ -36,36 +23,26 @@ fn record_start(book: &[u8], k: usize) -> usize
     ensures whole { result + record_length (get_or book.now result 0) ≤ length book.now }
 {
     let mut at: usize = 4;
-    let mut i: usize = 0;
-    while i < k {
+    for _i in 0..k {
         at += record_length(book[at]);
-        i += 1;
     }
     at
 }
 
 // The record of a link: reading's refusals, then 12, else its start and end.
-pub(crate) fn find_record(book: &[u8], link: u16) -> Span
-    ensures value { result ≡ span_of book.now link }
-    ensures order { result.start ≤ result.end }
-    ensures within { result.end ≤ length book.now }
+pub(crate) fn find_record(book: &[u8], link: u16) -> Result<Span, Reason>
+    ensures { result ≡ span_given book.now link }
 {
-    let d = decode(book);
-    let a = d.answer;
-    let Answer::Accepted = a else {
-        return refused(a);
-    };
-    let m = d.mesh;
-    let count = m.count;
+    let mut m = zero_mesh();
+    read_into(book, &mut m)?;
     let k = link as usize;
-    if count <= link {
-        return refused(Answer::Refused {
+    if m.count <= link {
+        return Err(Reason {
             number: 12,
             place: k,
         });
     }
     let start = record_start(book, k);
     let end = start + record_length(book[start]);
-    let answer = Answer::Accepted;
-    Span { start, end, answer }
+    Ok(Span { start, end })
 }

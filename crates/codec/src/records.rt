@@ -1,72 +1,40 @@
 // Reading the records of a book.
-ghost use Rattle.std.specs.Prelude.{◌≡◌, leb};
-ghost use Rattle.mesh.specs.declared.Answer.TheVariants.{Accepted};
-ghost use Rattle.mesh.specs.Mesh.{must, and_then, refuses};
-ghost use Rattle.reader.specs.Read.{header_read};
-ghost use Rattle.codec.specs.Book.{decoded};
+ghost use Rattle.std.specs.Prelude.{◌≡◌};
+ghost use Rattle.mesh.specs.Answer.{Accepted};
+ghost use Rattle.mesh.specs.Mesh.{zero_mesh};
+ghost use Rattle.codec.specs.Book.{book_answer, mesh_of};
 
-use crate::Decoded;
-use mesh::{Answer, zero_link, zero_mesh};
-use reader::read_record;
+use mesh::{Mesh, Reason, zero_link};
+use reader::{read_header, read_record};
 
-// The answer, then 10 where the last record ends at `at` before the end of the book.
-fn extra_answer(a: Answer, at: usize, end: usize) -> Answer
-    ensures { result ≡ and_then a (must (leb end at) 10 at Accepted) }
+// Reads book into m, which is all zero: the header's refusals, those of each record, then 10 where the last record ends before the end of the book. The
+// mesh is lent, so that it is copied once. After a refusal it holds what was read until then.
+pub(crate) fn read_into(book: &[u8], m: &mut Mesh) -> Result<(), Reason>
+    requires { m.old ≡ zero_mesh }
+    ensures answer { result ≡ book_answer book.now }
+    ensures mesh { result ≡ Accepted → m.new ≡ mesh_of book.now }
 {
-    let Answer::Accepted = a else {
-        return a;
-    };
-    if at < end {
-        return Answer::Refused {
-            number: 10,
-            place: at,
-        };
-    }
-    a
-}
-
-fn is_refused(a: Answer) -> bool
-    ensures { result ≡ refuses a }
-{
-    let Answer::Accepted = a else {
-        return true;
-    };
-    false
-}
-
-// The mesh of a book whose header gives this answer and says these numbers, which are 0 where it is refused. One mesh is filled, and cleared on a refusal, so
-// that it is copied once.
-pub(crate) fn read_records(book: &[u8], nodes: u8, count: u16, header: Answer) -> Decoded
-    requires nodes_value { nodes ≡ (header_read book.now).nodes }
-    requires count_value { count ≡ (header_read book.now).count }
-    requires header_value { header ≡ (header_read book.now).answer }
-    ensures { result ≡ decoded book.now }
-{
-    let k = count as usize;
+    let h = read_header(book)?;
+    let nodes = h.nodes;
+    let k = h.count as usize;
     let end = book.len();
-    let mut m = zero_mesh();
     m.nodes = nodes;
-    m.count = count;
-    let mut answer = header;
+    m.count = h.count;
     let mut prev = zero_link();
     let mut at: usize = 4;
-    let mut i: usize = 0;
-    while i < k {
-        let r = read_record(&book[at..], nodes, prev, at, end);
-        answer = r.answer;
-        let Answer::Accepted = answer else {
-            break;
-        };
+    for i in 0..k {
+        let r = read_record(&book[at..], nodes, prev, at, end)?;
         let l = r.link;
         m.links[i] = l;
         m.ducts[i] = r.duct;
         prev = l;
         at += r.length;
-        i += 1;
     }
-    answer = extra_answer(answer, at, end);
-    if is_refused(answer) {
-        m = zero_mesh();
+    if at < end {
+        return Err(Reason {
+            number: 10,
+            place: at,
+        });
     }
-    Decoded { mesh: m, answer }
+    Ok(())
 }

@@ -1,10 +1,9 @@
 -- The collection route of a mesh from a root (02, request 5), and what asking for it gives. Definitions only.
-use Rattle.std.specs.Prelude.{ℕ, ◌-◌, ◌*◌, Bool, false, not, List, ◌∷◌, length, replicate, ltb, leb}
+use Rattle.std.specs.Prelude.{ℕ, ◌-◌, ◌*◌, Bool, false, not, List, ◌∷◌, length, replicate, ltb, leb, Err}
 use Rattle.scan.specs.Lowest.{lowest, any}
 use Rattle.graph.specs.Plan.{unreached}
 use Rattle.mesh.specs.declared.Mesh.{Mesh}
-use Rattle.mesh.specs.declared.Answer.{Answer}
-use Rattle.mesh.specs.declared.Answer.TheVariants.{Accepted, Refused}
+use Rattle.mesh.specs.Answer.{Answer, Accepted, Refused}
 use Rattle.mesh.specs.Mesh.{must, and_then, output_as, mesh_answer}
 use Rattle.nets.specs.Nets.{net_of}
 use Rattle.depth_first.specs.Tree.{Tree, tour, labelled}
@@ -47,7 +46,7 @@ collect_answer m root room =
 
 abbrev pub collected_as : Answer → List Bool → ℕ → Collected
 collected_as Accepted labels n = record { tree = labels; count = n; answer = Accepted }
-collected_as (Refused number place) labels n = record { tree = no_labels; count = 0; answer = Refused number place }
+collected_as (Err r) labels n = record { tree = no_labels; count = 0; answer = Refused r.number r.place }
 
 -- the answer, with the labels and how many entries were written; on a refusal no link is labelled, and no entry was written
 unfoldable pub collected : Mesh → ℕ → ℕ → Collected

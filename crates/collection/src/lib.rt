@@ -1,27 +1,31 @@
 // The collection route: from a root the walk of a depth-first search, which meets every node and comes back (02, request 5).
 #![tactic(auto)]
 
-ghost use Rattle.std.specs.Prelude.{◌≡◌, ◌≤◌, length, take};
-ghost use Rattle.std.proofs.lemmas.List.Edits.{sets};
-ghost use Rattle.mesh.specs.declared.Answer.TheVariants.{Accepted, Refused};
+ghost use Rattle.std.specs.Prelude.{◌≡◌, true, length};
+ghost use Rattle.scan.specs.Lowest.{any};
+ghost use Rattle.graph.specs.Plan.{unreached};
+ghost use Rattle.mesh.specs.Answer.{Accepted};
 ghost use Rattle.mesh.specs.Mesh.{mesh_answer};
+ghost use Rattle.nets.specs.Nets.{net_of};
 ghost use Rattle.collection.specs.Collection.{no_labels, apart_at, collected, output_after};
 
 mod arcs;
 mod walk;
 
-use mesh::{Answer, Mesh};
+use mesh::{Mesh, Reason};
+use walk::Walk;
 
 // What the call gives: whether each link is one of the tree, which none past the last link is, and how many entries were written; on a refusal no link is, and no
 // entry was written.
+// form: no Result, since a refusal has no labels and counts no entry, which the clause of `collect` and the theorem `collection_refused` say of this record.
 #[derive(Clone, Copy)]
 pub struct Collected {
     pub tree: [bool; 256],
     pub count: usize,
-    pub answer: Answer,
+    pub answer: Result<(), Reason>,
 }
 
-fn refused(answer: Answer) -> Collected
+fn refused(answer: Result<(), Reason>) -> Collected
     ensures { result ≡ record { tree = no_labels; count = 0; answer = answer } }
 {
     Collected {
@@ -31,26 +35,13 @@ fn refused(answer: Answer) -> Collected
     }
 }
 
-// 20 with planning's place.
-fn apart(m: Mesh) -> Answer
-    requires { mesh_answer m ≡ Accepted }
-    ensures { result ≡ Refused 20 (apart_at m) }
+// The place of 20, which is planning's.
+fn apart(m: &Mesh) -> usize
+    requires { (mesh_answer m.now ≡ Accepted) × (any (unreached (net_of m.now)) m.now.nodes ≡ true) }
+    ensures { result ≡ apart_at m.now }
 {
-    let table = nets::all_ways(m);
-    let place = nets::lowest_unreached(m.nodes, &table) as usize;
-    Answer::Refused { number: 20, place }
-}
-
-// Stores the first n entries of a route at the front of out.
-fn copy(route: &[u8; 127], n: usize, out: &mut [u8])
-    requires { (n ≤ 127) × (length route.now ≡ 127) × (n ≤ length out.old) }
-    ensures { out.new ≡ sets out.old 0 (take n route.now) }
-{
-    let mut i: usize = 0;
-    while i < n {
-        out[i] = route[i];
-        i += 1;
-    }
+    let table = nets::ways(m, None);
+    nets::lowest_unreached(m.nodes, &table).unwrap() as usize
 }
 
 // 02's collection route: the nodes in the order in which the walk from the root meets them, the root first and last, at the front of out, and the links of its tree
@@ -61,33 +52,35 @@ pub fn collect(m: Mesh, root: u8, out: &mut [u8]) -> Collected
     ensures output { out.new ≡ output_after m root out.old }
 {
     let a = mesh::check(m);
-    let Answer::Accepted = a else {
+    let Ok(()) = a else {
         return refused(a);
     };
     if m.nodes <= root {
-        return refused(Answer::Refused {
+        return refused(Err(Reason {
             number: 6,
             place: 0,
-        });
+        }));
     }
-    let mut tree = [false; 256];
-    let mut route = [0u8; 127];
-    let count = walk::walk(m, root, &mut tree, &mut route);
+    let mut walk = Walk::new();
+    walk.walk_from(&m, root);
     let needed = 2 * (m.nodes as usize) - 1;
-    if count < needed {
-        return refused(apart(m));
+    if walk.count < needed {
+        return refused(Err(Reason {
+            number: 20,
+            place: apart(&m),
+        }));
     }
     if out.len() < needed {
-        return refused(Answer::Refused {
+        return refused(Err(Reason {
             number: 11,
             place: needed,
-        });
+        }));
     }
-    copy(&route, count, out);
-    let answer = Answer::Accepted;
+    let route = walk.entries();
+    out[..route.len()].copy_from_slice(route);
     Collected {
-        tree,
-        count,
-        answer,
+        tree: walk.tree,
+        count: walk.count,
+        answer: Ok(()),
     }
 }

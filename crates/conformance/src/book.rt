@@ -6,9 +6,9 @@ use streams::print::{end, field, line, number};
 
 // A book, and what the library reads from it and writes for it.
 pub(crate) fn run_book(case: u64) {
-    let room = next_two() as usize;
+    let room = usize::from(next_two());
     let link = next_two();
-    let length = next_two() as usize;
+    let length = usize::from(next_two());
     field(b"book", case);
     number(length as u64);
     end();
@@ -21,6 +21,6 @@ pub(crate) fn run_book(case: u64) {
 pub(crate) fn run_listed(case: u64) {
     line(b"listing", case);
     let mut space = [0u8; MOST_BYTES];
-    let came = next_bytes(&mut space, next_two() as usize);
-    listing::print_book(&space[..came]);
+    let came = next_bytes(&mut space, usize::from(next_two()));
+    let _ = listing::print_book(&space[..came]);
 }

@@ -21,24 +21,22 @@ pub(crate) fn run_script(case: u64) {
 // The calls that come next, and both copies of the session at the end.
 pub(crate) fn run_list(s: Session) {
     let copies = run_calls(s, next_two(), true);
-    let by_value = copies.by_value;
-    show_whole(by_value, false);
-    let in_place = copies.in_place;
-    show_whole(in_place, true);
+    show_whole(copies.by_value, false);
+    if let Some(in_place) = copies.in_place {
+        show_whole(in_place, true);
+    }
 }
 
 // The mesh of the book that comes next.
 fn read_mesh() -> Mesh {
     let mut space = [0u8; MOST_BYTES];
-    let came = next_bytes(&mut space, next_two() as usize);
-    let d = codec::decode(&space[..came]);
-    d.mesh
+    let came = next_bytes(&mut space, usize::from(next_two()));
+    codec::decode(&space[..came]).mesh
 }
 
 // Started on the mesh's own plan, started on a plan that is given, or given whole.
 fn first_session(m: Mesh) -> Session {
-    let kind = next_byte();
-    match kind {
+    match next_byte() {
         0 => own_plan(m),
         1 => started(m, read_plan()),
         _ => read_session(m),
@@ -47,16 +45,14 @@ fn first_session(m: Mesh) -> Session {
 
 fn own_plan(m: Mesh) -> Session {
     let begun = begin(m);
-    let a = begun.starting;
-    answer_line(b"start", a);
+    answer_line(b"start", begun.starting);
     begun.session
 }
 
 pub(crate) fn started(m: Mesh, plan: Plan) -> Session {
-    let c = start(m, plan);
-    let a = c.answer;
-    answer_line(b"start", a);
-    c.session
+    let started = start(m, plan);
+    answer_line(b"start", started.answer);
+    started.session
 }
 
 // The session: 256 states of each wavelength, and the digest of its mesh and plan.

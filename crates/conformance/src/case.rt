@@ -14,12 +14,10 @@ use streams::input::STDIN_FILENO;
 // Reads the next case, prints its answers, and says whether there was one.
 pub(crate) fn run_case(case: u64) -> bool {
     let mut kind = [0u8; 1];
-    if io::read_full(STDIN_FILENO, &mut kind) == 0 {
-        return false;
-    }
-    run_kind(kind[0], case)
+    io::read_full(STDIN_FILENO, &mut kind) == 1 && run_kind(kind[0], case)
 }
 
+// form: a match, since a letter of the corpus names the case; a table of functions by letter would be searched and say no more.
 fn run_kind(kind: u8, case: u64) -> bool {
     match kind {
         b'B' => run_book(case),

@@ -1,6 +1,7 @@
 // Reads the corpus from standard input and prints what the library answers to each case (docs/CORPUS.md).
 #![tactic(auto)]
 
+mod arrays;
 mod book;
 mod calls;
 mod case;
@@ -16,11 +17,9 @@ mod surveying;
 const MOST_CASES: u64 = 1000000;
 
 fn main() {
-    let mut number: u64 = 0;
-    while number < MOST_CASES {
+    for number in 0..MOST_CASES {
         if !case::run_case(number) {
             return;
         }
-        number += 1;
     }
 }

@@ -6,10 +6,8 @@ use streams::print::{answer_line, line};
 
 pub(crate) fn run_upgrade(case: u64) {
     line(b"upgrade", case);
-    let c = carry_over(read_old_session());
-    let a = c.answer;
-    answer_line(b"carry-over", a);
-    let s = c.session;
-    show_whole(s, false);
-    run_list(s);
+    let carried = carry_over(read_old_session());
+    answer_line(b"carry-over", carried.answer);
+    show_whole(carried.session, false);
+    run_list(carried.session);
 }

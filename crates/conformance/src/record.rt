@@ -10,7 +10,7 @@ use streams::print::line;
 
 pub(crate) fn run_mesh(case: u64) {
     line(b"record-of-mesh", case);
-    let room = next_two() as usize;
+    let room = usize::from(next_two());
     show_record(read_record(), room);
 }
 

@@ -1,7 +1,6 @@
 // A duct query: the links that share the duct of a link.
 use crate::record::read_record;
 use clients::duct::sharing;
-use mesh::Mesh;
 use streams::input::next_two;
 use streams::print::{answer_line, end, line, number, word};
 
@@ -11,33 +10,22 @@ const MOST_ENTRIES: usize = 300;
 // A mesh record and a link, asked with `room` entries 42405, at most 300, which are shown afterwards.
 pub(crate) fn run_sharing(case: u64) {
     line(b"ducts", case);
-    let room = next_two() as usize;
+    let room = usize::from(next_two());
     let link = next_two();
     let m = read_record();
     let mut space = [42405u16; MOST_ENTRIES];
-    share_into(m, link, &mut space, room);
-}
-
-fn share_into(m: Mesh, link: u16, out: &mut [u16], room: usize) {
-    if room <= out.len() {
-        let r = sharing(m, link, &mut out[0..room]);
-        let a = r.answer;
-        answer_line(b"sharing", a);
-        line(b"count", r.count as u64);
-        show_entries(&out[0..room]);
+    if let Some(out) = space.get_mut(..room) {
+        let shared = sharing(m, link, out);
+        answer_line(b"sharing", shared.answer);
+        line(b"count", shared.count as u64);
+        show_entries(out);
     }
 }
 
 fn show_entries(entries: &[u16]) {
     word(b"out");
-    let mut i: usize = 0;
-    while i < entries.len() {
-        show_entry(entries[i]);
-        i += 1;
+    for k in entries {
+        number(u64::from(*k));
     }
     end();
-}
-
-fn show_entry(k: u16) {
-    number(k as u64);
 }

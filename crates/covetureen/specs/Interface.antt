@@ -1,9 +1,8 @@
 -- What the functions for C and Rust give, by the book that is lent to them. Definitions only.
-use Rattle.std.specs.Prelude.{ℕ, List, replicate, ltb}
+use Rattle.std.specs.Prelude.{ℕ, List, replicate, ltb, Err}
 use Rattle.mesh.specs.declared.Link.{Link}
 use Rattle.mesh.specs.declared.Mesh.{Mesh}
-use Rattle.mesh.specs.declared.Answer.{Answer}
-use Rattle.mesh.specs.declared.Answer.TheVariants.{Accepted, Refused}
+use Rattle.mesh.specs.Answer.{Answer, Accepted, Refused}
 use Rattle.mesh.specs.Mesh.{must, and_then}
 use Rattle.mesh.specs.WellFormed.{link, duct}
 use Rattle.codec.specs.Book.{decoded}
@@ -17,17 +16,17 @@ use Rattle.collection.specs.Collection as collection
 -- its number, 0 where it accepts
 abbrev pub number_of : Answer → ℕ
 number_of Accepted = 0
-number_of (Refused number place) = number
+number_of (Err r) = r.number
 
 -- its place, 0 where it accepts
 abbrev pub place_of : Answer → ℕ
 place_of Accepted = 0
-place_of (Refused number place) = place
+place_of (Err r) = r.place
 
 -- what is lent holds after a call that answers so: `after` where it accepts, and what it held before where it refuses
 abbrev pub lent_as : {A : Type 0} → Answer → A → A → A
 lent_as Accepted after before = after
-lent_as (Refused number place) after before = before
+lent_as (Err r) after before = before
 
 -- ---- the answers, by the book s
 

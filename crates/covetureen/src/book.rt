@@ -5,7 +5,7 @@ ghost use Rattle.covetureen.specs.Interface.{number_of, place_of, lent_as, mesh_
 
 use crate::answer::{and_then, link_answer, tell};
 use crate::entries::{duct_of, link_of};
-use mesh::Answer;
+use mesh::Reason;
 
 // Reads a book: 0 where it is accepted, else the number of the refusal, with its place.
 pub fn covetureen_check(book: &[u8], place: &mut usize) -> u8
@@ -26,7 +26,7 @@ pub fn covetureen_mesh(book: &[u8], nodes: &mut u8, links: &mut u16, place: &mut
 {
     let d = codec::decode(book);
     let reading = d.answer;
-    let Answer::Accepted = reading else {
+    let Ok(()) = reading else {
         return tell(reading, place);
     };
     let m = d.mesh;
@@ -58,7 +58,7 @@ pub fn covetureen_link(
     let m = d.mesh;
     let reading = d.answer;
     let named = and_then(reading, link_answer(m.count, link));
-    let Answer::Accepted = named else {
+    let Ok(()) = named else {
         return tell(named, place);
     };
     let l = link_of(m, link);
@@ -84,7 +84,7 @@ pub fn covetureen_plan(book: &[u8], directions: &mut [u8; 256], place: &mut usiz
     let plan = p.plan;
     let found = plan.directions;
     let planned = and_then(reading, planning);
-    let Answer::Accepted = planned else {
+    let Ok(()) = planned else {
         return tell(planned, place);
     };
     *directions = found;

@@ -4,7 +4,7 @@ ghost use Rattle.one_cut.specs.OneCut.{recovered};
 ghost use Rattle.covetureen.specs.Interface.{number_of, place_of, lent_as, mesh_in, cut_answer};
 
 use crate::answer::{and_then, link_answer, tell};
-use mesh::Answer;
+use mesh::Reason;
 use one_cut::recover;
 
 // The cut of one link on the plan of a book's mesh, and an unhindered run: of wavelength 1 the links of its route from x on, zeros past them, how many they
@@ -32,7 +32,7 @@ pub fn covetureen_route(
     let planning = p.answer;
     let planned = and_then(reading, planning);
     let a = and_then(planned, link_answer(m.count, link));
-    let Answer::Accepted = a else {
+    let Ok(()) = a else {
         return tell(a, place);
     };
     let r = recover(m, link);

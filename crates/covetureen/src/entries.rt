@@ -8,18 +8,15 @@ use mesh::{Link, Mesh};
 pub fn link_of(m: Mesh, k: u16) -> Link
     ensures { result ≡ link m k }
 {
-    if 255 < k {
-        return mesh::zero_link();
-    }
-    m.links[k as usize]
+    m.links
+        .get(usize::from(k))
+        .copied()
+        .unwrap_or(mesh::zero_link())
 }
 
 // The duct number of link k.
 pub fn duct_of(m: Mesh, k: u16) -> u16
     ensures { result ≡ duct m k }
 {
-    if 255 < k {
-        return 0;
-    }
-    m.ducts[k as usize]
+    m.ducts.get(usize::from(k)).copied().unwrap_or(0)
 }

@@ -6,7 +6,7 @@ ghost use Rattle.collection.specs.Collection.{collected};
 ghost use Rattle.covetureen.specs.Interface.{number_of, place_of, lent_as, mesh_in, survey_answer, sharing_answer, shared_links, collect_answer, collected_nodes};
 
 use crate::answer::{and_then, tell};
-use mesh::Answer;
+use mesh::Reason;
 
 // The survey of the mesh of a book: for each node the lowest node of its part, 0 past the last node, and for each link 1 where no path joins its ends without it,
 // else 0, and 0 past the last link.
@@ -29,7 +29,7 @@ pub fn covetureen_survey(
     let found_parts = s.parts;
     let found_bridges = s.bridges;
     let surveyed = and_then(reading, checking);
-    let Answer::Accepted = surveyed else {
+    let Ok(()) = surveyed else {
         return tell(surveyed, place);
     };
     *parts = found_parts;
@@ -57,7 +57,7 @@ pub fn covetureen_ducts(
     let reading = d.answer;
     let asked = s.answer;
     let shared = and_then(reading, asked);
-    let Answer::Accepted = shared else {
+    let Ok(()) = shared else {
         return tell(shared, place);
     };
     *links = found;
@@ -88,7 +88,7 @@ pub fn covetureen_collect(
     let asked = c.answer;
     let labels = c.tree;
     let collected = and_then(reading, asked);
-    let Answer::Accepted = collected else {
+    let Ok(()) = collected else {
         return tell(collected, place);
     };
     *route = found;

@@ -1,4 +1,5 @@
 // The functions of covetureen for C and Rust, as a static library: each calls covetureen's of the same name. include/covetureen.h declares them.
+// form: twins of covetureen's, with lent numbers for what is given, since C calls them.
 #![tactic(auto)]
 
 ghost use Rattle.std.specs.Prelude.{◌≡◌};

@@ -1,21 +1,21 @@
-// The failure and one delivery, on arrays that are lent, with the source x and the target y. Link i may be offered where starts[i] is its tail. Of `count`
-// links the first 256 are there; a delivery past them changes nothing, and a node past 63 is never reached.
+// The failure and one delivery, on the arcs of a digraph and on a flood over it, which are lent. A delivery past the arcs changes nothing, and a node past 63
+// is never reached.
 // A delivery on link k says below which link none is under way where none was below k: there the next search starts.
 #![tactic(auto)]
 
-ghost use Rattle.std.specs.Prelude.{◌≡◌, ℕ, ◌<◌, ◌≤◌, min, Bool, true, List, set};
+ghost use Rattle.std.specs.Prelude.{◌≡◌, ℕ, ◌<◌, min, true, set};
 ghost use Rattle.scan.specs.Entry.{has};
 ghost use Rattle.flood.specs.Machine.{begin, arrive, withdraw, step};
-ghost use Rattle.flood.specs.Lent.{graph, failure, flood};
+ghost use Rattle.flood.specs.Lent.{graph_on, failure_on};
 ghost use Rattle.delivery.specs.Moved.{Moved};
 
+use flood::{Arcs, Flood};
 use states::links_of;
 
 fn is_reached(reached: &[bool], v: u8) -> bool
     ensures { result ≡ has reached.now v }
 {
-    let i = v as usize;
-    if i < reached.len() { reached[i] } else { false }
+    reached.get(v as usize).copied().unwrap_or(false)
 }
 
 fn reach(reached: &mut [bool], v: u8)
@@ -27,116 +27,79 @@ fn reach(reached: &mut [bool], v: u8)
     }
 }
 
-// The failure: x is reached, and every link that leaves it and may be offered becomes offered.
-pub fn begin(
-    tails: &[u8; 256],
-    starts: &[u8; 256],
-    states: &mut [u8; 256],
-    reached: &mut [bool; 64],
-    count: usize,
-    x: u8,
-)
-    ensures { (n y : ℕ) (h : List ℕ) → flood states.new reached.new
-        ≡ begin (graph n tails.now h (min count 256)) (failure tails.now starts.now x y)
-        (flood states.old reached.old) }
+// The failure: the source is reached, and every link that leaves it and may be offered becomes offered.
+pub fn begin(arcs: &Arcs, flood: &mut Flood)
+    ensures { (n : ℕ) → flood.new ≡ begin (graph_on n arcs.now) (failure_on arcs.now) flood.old }
 {
-    reach(reached, x);
-    offers::offer_all(tails, starts, states, count, x);
+    reach(&mut flood.reached, arcs.source);
+    offers::offer_all(
+        &arcs.tails,
+        &arcs.starts,
+        &mut flood.states,
+        arcs.count,
+        arcs.source,
+    );
 }
 
 // A delivery on the offered link k.
-fn arrive(
-    tails: &[u8; 256],
-    heads: &[u8; 256],
-    starts: &[u8; 256],
-    states: &mut [u8; 256],
-    reached: &mut [bool; 64],
-    count: usize,
-    y: u8,
-    k: usize,
-) -> usize
-    requires { k < min count 256 }
-    ensures { (n x : ℕ) → Moved states.old k (flood states.new reached.new)
-        (arrive (graph n tails.now heads.now (min count 256)) (failure tails.now starts.now x y) k
-        (flood states.old reached.old)) result }
+fn arrive(arcs: &Arcs, flood: &mut Flood, k: usize) -> usize
+    requires { k < min arcs.now.count 256 }
+    ensures { (n : ℕ) → Moved flood.old.states k flood.new
+        (arrive (graph_on n arcs.now) (failure_on arcs.now) k flood.old) result }
 {
-    let b = heads[k];
-    if is_reached(reached, b) {
-        states[k] = 3;
+    let b = arcs.heads[k];
+    if is_reached(&flood.reached, b) {
+        flood.states[k] = 3;
         return k;
     }
-    reach(reached, b);
-    if b == y {
-        states[k] = 2;
+    reach(&mut flood.reached, b);
+    if b == arcs.target {
+        flood.states[k] = 2;
         return k;
     }
-    if offers::offer_quiet(tails, starts, states, count, b) {
-        states[k] = 2;
+    if offers::offer_quiet(&arcs.tails, &arcs.starts, &mut flood.states, arcs.count, b) {
+        flood.states[k] = 2;
         return 0;
     }
-    states[k] = 3;
+    flood.states[k] = 3;
     k
 }
 
-fn lower(j: usize, k: usize) -> usize
-    ensures { (result ≤ j) × (result ≤ k) }
-{
-    if j < k { j } else { k }
-}
-
 // A delivery on the refused link k.
-fn withdraw(
-    tails: &[u8; 256],
-    heads: &[u8; 256],
-    states: &mut [u8; 256],
-    count: usize,
-    x: u8,
-    k: usize,
-) -> usize
-    requires { k < min count 256 }
-    ensures { (n y : ℕ) (s : List ℕ) (w : List Bool) → Moved states.old k (flood states.new w)
-        (withdraw (graph n tails.now heads.now (min count 256)) (failure tails.now s x y) k
-        (flood states.old w)) result }
+fn withdraw(arcs: &Arcs, flood: &mut Flood, k: usize) -> usize
+    requires { k < min arcs.now.count 256 }
+    ensures { (n : ℕ) → Moved flood.old.states k flood.new
+        (withdraw (graph_on n arcs.now) (failure_on arcs.now) k flood.old) result }
 {
-    let a = tails[k];
-    states[k] = 4;
-    if a == x {
+    let a = arcs.tails[k];
+    flood.states[k] = 4;
+    if a == arcs.source {
         return k;
     }
-    if searches::some_held(tails, states, count, a) {
+    if searches::some_held(&arcs.tails, &flood.states, arcs.count, a) {
         return k;
     }
-    let j = searches::lowest_taken(heads, states, count, a);
-    if links_of(count) <= j {
+    let j = searches::lowest_taken(&arcs.heads, &flood.states, arcs.count, a);
+    if links_of(arcs.count) <= j {
         return k;
     }
-    states[j] = 3;
-    lower(j, k)
+    flood.states[j] = 3;
+    j.min(k)
 }
 
 // A delivery on link k; nothing changes where k is not under way.
-pub fn step(
-    tails: &[u8; 256],
-    heads: &[u8; 256],
-    starts: &[u8; 256],
-    states: &mut [u8; 256],
-    reached: &mut [bool; 64],
-    count: usize,
-    x: u8,
-    y: u8,
-    k: usize,
-) -> usize
-    ensures { (n : ℕ) → Moved states.old k (flood states.new reached.new)
-        (step (graph n tails.now heads.now (min count 256)) (failure tails.now starts.now x y) k
-        (flood states.old reached.old)) result }
+pub fn step(arcs: &Arcs, flood: &mut Flood, k: usize) -> usize
+    ensures { (n : ℕ) → Moved flood.old.states k flood.new
+        (step (graph_on n arcs.now) (failure_on arcs.now) k flood.old) result }
 {
-    if links_of(count) <= k {
+    if links_of(arcs.count) <= k {
         return k;
     }
-    let v = states[k];
+    let v = flood.states[k];
+    // form: 01 has a delivery decide by a match on the state's number, and the searches compare the states as bytes
     match v {
-        1 => arrive(tails, heads, starts, states, reached, count, y, k),
-        3 => withdraw(tails, heads, states, count, x, k),
+        1 => arrive(arcs, flood, k),
+        3 => withdraw(arcs, flood, k),
         0 | 2 | 4 | 5..=255 => k,
     }
 }

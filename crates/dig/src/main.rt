@@ -2,90 +2,61 @@
 // (docs/CORPUS.md, the program dig). A refusal of reading is the only line, and so is a duct without a link.
 #![tactic(auto)]
 
-use books::entries::show_link;
-use clients::duct::{lowest_in, sharing};
-use mesh::{Answer, Mesh};
-use streams::input::{next_byte, next_bytes, next_two};
-use streams::print::{answer, answer_line, end, field, number, word};
+ghost use Rattle.std.specs.Prelude.{◌≢◌, ◌<◌, min};
+ghost use Rattle.std.specs.Option.{SomeIff};
+ghost use Rattle.dig.specs.Dig.{first_in};
 
-fn main() {
-    let mut space = io::buffer();
-    let came = next_bytes(&mut space, next_two() as usize);
-    let d = codec::decode(&space[..came]);
-    let a = d.answer;
-    let Answer::Accepted = a else {
-        answer_line(b"read", a);
-        return;
-    };
-    let m = d.mesh;
-    let letter = next_byte();
-    show_dig(m, letter, next_two());
-}
+use books::entries::show_link;
+use books::read::next_mesh;
+use clients::duct::{lowest_in, sharing};
+use mesh::{Mesh, Reason};
+use streams::input::{next_byte, next_two};
+use streams::print::{answer, end, field, number, word};
 
 // By a link or by a duct; another letter has no answer.
-fn show_dig(m: Mesh, letter: u8, n: u16) {
-    match letter {
-        b'L' => show_sharing(m, n),
-        b'D' => show_duct(m, n),
-        _ => return,
+fn main() {
+    if let Some(m) = next_mesh() {
+        match next_byte() {
+            b'L' => show_sharing(&m, next_two()),
+            b'D' => show_duct(&m, next_two()),
+            _ => {}
+        }
     }
 }
 
 // The lowest link in a duct, and all links in it.
-fn show_duct(m: Mesh, duct: u16) {
+fn show_duct(m: &Mesh, duct: u16) {
     field(b"duct", duct as u64);
-    let k = lowest(m, duct);
-    if 255 < k {
-        word(b" none\n");
-        return;
+    match lowest_link(m, duct) {
+        Some(k) => {
+            field(b" lowest", k as u64);
+            end();
+            show_sharing(m, k);
+        }
+        None => word(b" none\n"),
     }
-    field(b" lowest", k as u64);
-    end();
-    show_sharing(m, k as u16);
 }
 
-// The lowest link in a duct; 256 where no link lies in it, as in duct 0, which is none.
-fn lowest(m: Mesh, duct: u16) -> usize {
-    if duct == 0 {
-        return 256;
-    }
-    let k = lowest_in(m, duct);
-    if k < m.count as usize { k } else { 256 }
+// The lowest link in a duct; none where no link lies in it, as in duct 0, which is none.
+fn lowest_link(m: &Mesh, duct: u16) -> Option<u16>
+    ensures { SomeIff result ((duct ≢ 0) × (first_in m.now duct < min m.now.count 256)) (first_in m.now duct) }
+{
+    if duct == 0 { None } else { lowest_in(*m, duct) }
 }
 
 // The answer to the query by duct, with the number of links, and a line for each of them.
-fn show_sharing(m: Mesh, k: u16) {
+fn show_sharing(m: &Mesh, k: u16) {
     let mut links = [0u16; 256];
-    let r = sharing(m, k, &mut links);
+    let r = sharing(*m, k, &mut links);
     field(b"sharing", k as u64);
-    let a = r.answer;
-    answer(a);
-    let Answer::Accepted = a else {
+    answer(r.answer);
+    let Ok(()) = r.answer else {
         end();
         return;
     };
     number(r.count as u64);
     end();
-    show_links(m, &links, r.count);
-}
-
-// The lines of the first so many links that are listed.
-fn show_links(m: Mesh, links: &[u16; 256], count: usize) {
-    let mut i: usize = 0;
-    while i < 256 {
-        if count <= i {
-            return;
-        }
-        show_entry(m, links[i]);
-        i += 1;
+    for link in links.iter().take(r.count) {
+        show_link(m, *link);
     }
-}
-
-fn show_entry(m: Mesh, k: u16) {
-    if 255 < k {
-        return;
-    }
-    let l = m.links[k as usize];
-    let duct = m.ducts[k as usize];
-    show_link(k as u64, l, duct);
 }

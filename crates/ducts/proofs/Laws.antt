@@ -1,3 +1,4 @@
+pub mod Listed
 pub mod Sharing
 pub mod Asking
 pub mod Query

@@ -1,9 +1,8 @@
 -- The query by duct (02, request 4): which links share the duct of a named link, and what the query gives. Definitions only.
-use Rattle.std.specs.Prelude.{ℕ, Bool, not, ◌&&◌, ◌||◌, List, length, ltb, leb, eqb}
+use Rattle.std.specs.Prelude.{ℕ, Bool, not, ◌&&◌, ◌||◌, List, length, ltb, leb, eqb, Err}
 use Rattle.scan.specs.Passing.{passing}
 use Rattle.mesh.specs.declared.Mesh.{Mesh}
-use Rattle.mesh.specs.declared.Answer.{Answer}
-use Rattle.mesh.specs.declared.Answer.TheVariants.{Accepted, Refused}
+use Rattle.mesh.specs.Answer.{Answer, Accepted, Refused}
 use Rattle.mesh.specs.Mesh.{must, and_then, output_as, mesh_answer}
 use Rattle.mesh.specs.WellFormed.{duct}
 use Rattle.ducts.specs.declared.Shared.{Shared}
@@ -30,7 +29,7 @@ sharing_answer m k room =
 
 abbrev pub shared_as : Answer → ℕ → Shared
 shared_as Accepted n = record { count = n; answer = Accepted }
-shared_as (Refused number place) n = record { count = 0; answer = Refused number place }
+shared_as (Err r) n = record { count = 0; answer = Refused r.number r.place }
 
 -- the answer, with how many links were written, 0 on a refusal
 unfoldable pub shared : Mesh → ℕ → ℕ → Shared

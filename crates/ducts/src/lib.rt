@@ -2,24 +2,25 @@
 #![tactic(auto)]
 
 ghost use Rattle.std.specs.Prelude.{◌≡◌, length};
-ghost use Rattle.mesh.specs.declared.Answer.TheVariants.{Refused};
+ghost use Rattle.mesh.specs.Answer.{Refused};
 ghost use Rattle.ducts.specs.Sharing.{shared_as, shared, output_after};
 
 mod links;
 
-use mesh::{Answer, Mesh};
+use mesh::{Mesh, Reason};
 
 // What the query gives: how many links were listed, 0 on a refusal.
+// form: no Result, since a refusal counts no link, which the clause of `sharing` and the theorem `ducts_refused` say of this record.
 #[derive(Clone, Copy)]
 pub struct Shared {
     pub count: usize,
-    pub answer: Answer,
+    pub answer: Result<(), Reason>,
 }
 
 fn refused(number: u8, place: usize) -> Shared
     ensures { result ≡ shared_as (Refused number place) 0 }
 {
-    let answer = Answer::Refused { number, place };
+    let answer = Err(Reason { number, place });
     Shared { count: 0, answer }
 }
 
@@ -31,7 +32,7 @@ pub fn sharing(m: Mesh, link: u16, out: &mut [u16]) -> Shared
     ensures output { out.new ≡ output_after m link out.old }
 {
     let a = mesh::check(m);
-    let Answer::Accepted = a else {
+    let Ok(()) = a else {
         return Shared {
             count: 0,
             answer: a,
@@ -41,13 +42,13 @@ pub fn sharing(m: Mesh, link: u16, out: &mut [u16]) -> Shared
     if m.count <= link {
         return refused(12, k);
     }
-    let ducts = m.ducts;
-    let links = m.count as usize;
-    let needed = links::count(&ducts, links, k);
+    let needed = links::count(&m, k);
     if out.len() < needed {
         return refused(11, needed);
     }
-    let count = links::list(&ducts, links, k, out);
-    let answer = Answer::Accepted;
-    Shared { count, answer }
+    links::list(&m, k, out);
+    Shared {
+        count: needed,
+        answer: Ok(()),
+    }
 }

@@ -1,54 +1,38 @@
-// The loops over the links that share a duct, on the duct numbers of a mesh.
-ghost use Rattle.std.specs.Prelude.{◌≡◌, ◌≤◌, ◌<◌, length};
-ghost use Rattle.std.proofs.lemmas.List.Edits.{sets};
-ghost use Rattle.scan.specs.Entry.{at};
-ghost use Rattle.ducts.specs.Sharing.{shares, links_sharing};
+// The links of a mesh that share the duct of one of them.
+ghost use Rattle.std.specs.Prelude.{◌≡◌, ◌≤◌, ◌<◌, ◌++◌, drop, length};
+ghost use Rattle.mesh.specs.WellFormed.{duct};
+ghost use Rattle.ducts.specs.Sharing.{shares, sharing};
+
+use mesh::Mesh;
 
 // Whether link i shares the duct of link k.
-fn is_shared(ducts: &[u16; 256], k: usize, i: usize) -> bool
+fn is_shared(m: &Mesh, k: usize, i: usize) -> bool
     requires { (k < 256) × (i < 256) }
-    ensures { result ≡ shares (at ducts.now) k i }
+    ensures { result ≡ shares (duct m.now) k i }
 {
-    if i == k {
-        return true;
-    }
-    if ducts[k] == 0 {
-        return false;
-    }
-    ducts[i] == ducts[k]
+    i == k || m.ducts[k] != 0 && m.ducts[i] == m.ducts[k]
 }
 
-// How many of the first links share the duct of link k.
-pub(crate) fn count(ducts: &[u16; 256], links: usize, k: usize) -> usize
-    requires { (links ≤ 256) × (k < links) }
-    ensures { result ≡ length (links_sharing (at ducts.now) links k) }
+// How many links share the duct of link k.
+pub(crate) fn count(m: &Mesh, k: usize) -> usize
+    requires { (m.now.count ≤ 256) × (k < m.now.count) }
+    ensures { result ≡ length (sharing m.now k) }
 {
-    let mut n: usize = 0;
-    let mut i: usize = 0;
-    while i < links {
-        if is_shared(ducts, k, i) {
-            n += 1;
-        }
-        i += 1;
-    }
-    n
+    let links = m.count as usize;
+    (0..links).filter(|i| is_shared(m, k, *i)).count()
 }
 
-// Stores their numbers at the front of out, rising, and answers how many they are.
-pub(crate) fn list(ducts: &[u16; 256], links: usize, k: usize, out: &mut [u16]) -> usize
-    requires links_bound { (links ≤ 256) × (k < links) }
-    requires k_in_bounds { length (links_sharing (at ducts.now) links k) ≤ length out.old }
-    ensures number { result ≡ length (links_sharing (at ducts.now) links k) }
-    ensures stored { out.new ≡ sets out.old 0 (links_sharing (at ducts.now) links k) }
+// Stores their numbers at the front of out, rising.
+pub(crate) fn list(m: &Mesh, k: usize, out: &mut [u16])
+    requires link { (m.now.count ≤ 256) × (k < m.now.count) }
+    requires room { length (sharing m.now k) ≤ length out.old }
+    ensures { out.new ≡ sharing m.now k ++ drop (length (sharing m.now k)) out.old }
 {
-    let mut n: usize = 0;
-    let mut i: usize = 0;
-    while i < links {
-        if is_shared(ducts, k, i) {
-            out[n] = i as u16;
+    let mut n = 0;
+    for i in 0..m.count {
+        if is_shared(m, k, i as usize) {
+            out[n] = i;
             n += 1;
         }
-        i += 1;
     }
-    n
 }

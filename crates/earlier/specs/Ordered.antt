@@ -5,8 +5,7 @@ use Rattle.scan.specs.Bytes.{number}
 use Rattle.scan.specs.Lowest.{lowest, any}
 use Rattle.mesh.specs.declared.Link.{Link}
 use Rattle.mesh.specs.declared.Mesh.{Mesh}
-use Rattle.mesh.specs.declared.Answer.{Answer}
-use Rattle.mesh.specs.declared.Answer.TheVariants.{Accepted}
+use Rattle.mesh.specs.Answer.{Answer, Accepted}
 use Rattle.mesh.specs.Mesh.{must, and_then, zero_link, nodes_fit, count_fits, rest_zero}
 use Rattle.fields.specs.Field.{needless}
 use Rattle.fields.specs.Record.{as_link, fields_of, fields_at, record_length, reserved}

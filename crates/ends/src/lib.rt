@@ -18,7 +18,7 @@ const LAST_BLOCK: usize = 240;
 pub fn lower(i: usize, j: usize) -> usize
     ensures { result ≡ min i j }
 {
-    if i < j { i } else { j }
+    i.min(j)
 }
 
 // The low and the high end of a link whose ends are this number.
@@ -34,38 +34,39 @@ pub fn high_of(e: u16) -> u8
     (e % 256) as u8
 }
 
+// Whether a test passes on each entry from `from` to below `end`: without a branch.
+fn each_passes<F: Fn(usize) -> bool>(from: usize, end: usize, passes: F) -> bool
+    requires callable { (i : ℕ) → from ≤ i → i < end → F.pre passes i }
+    ensures { result ≡ true → (i : ℕ) → from ≤ i → i < end → F.post passes i true }
+{
+    let mut each = true;
+    for i in from..end {
+        each = each & passes(i);
+    }
+    each
+}
+
 // Whether the low end of each of the first entries is below its high end, and that a node.
 pub fn fit(nodes: u8, count: usize, ends: &[u16; 256]) -> bool
     ensures { result ≡ true → (i : ℕ) → i < min count 256 → Fits nodes ends.now i }
 {
     let n = nodes as u16;
-    let links = lower(count, ENTRIES);
-    let mut fit = true;
-    let mut i: usize = 0;
-    while i < links {
+    each_passes(0, lower(count, ENTRIES), |i| {
         let e = ends[i];
-        let fits = (e / 256 < e % 256) & (e % 256 < n);
-        fit = fit & fits;
-        i += 1;
-    }
-    fit
+        (e / 256 < e % 256) & (e % 256 < n)
+    })
 }
 
 // Whether each entry of the block at `from` is 0 or not below the entry before it.
 fn rise_within(ends: &[u16; 256], from: usize) -> bool
     requires { (1 ≤ from) × (from + 16 ≤ 256) }
-    ensures { result ≡ true → (j : ℕ) → j < 16 → Rising ends.now (from + j) }
+    ensures { result ≡ true → (i : ℕ) → from ≤ i → i < from + 16 → Rising ends.now i }
 {
-    let mut rise = true;
-    let mut j: usize = 0;
-    while j < BLOCK {
-        let e = ends[from + j];
-        let last = ends[from + j - 1];
-        let rises = (e == 0) | (last <= e);
-        rise = rise & rises;
-        j += 1;
-    }
-    rise
+    each_passes(from, from + BLOCK, |i| {
+        let e = ends[i];
+        let last = ends[i - 1];
+        (e == 0) | (last <= e)
+    })
 }
 
 // Whether each of the first entries but entry 0 is 0 or not below the entry before it. The last block is whole, so that no entry is tested by
@@ -74,12 +75,10 @@ pub fn rise(count: usize, ends: &[u16; 256]) -> bool
     ensures { result ≡ true → (i : ℕ) → 0 < i → i < min count 256 → Rising ends.now i }
 {
     let links = lower(count, ENTRIES);
-    let mut i: usize = 1;
-    while i < links {
-        if !rise_within(ends, lower(i, LAST_BLOCK)) {
+    for b in 0..links.div_ceil(BLOCK) {
+        if !rise_within(ends, lower(1 + b * BLOCK, LAST_BLOCK)) {
             return false;
         }
-        i += BLOCK;
     }
     true
 }

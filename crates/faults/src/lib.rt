@@ -1,7 +1,7 @@
 // The loops over the entries of a record. No branch between the entries of a block, so that the compiler can test several at once.
 #![tactic(auto)]
 
-ghost use Rattle.std.specs.Prelude.{◌≡◌, not, ◌||◌, ℕ, ◌+◌, ◌≤◌, max, ltb};
+ghost use Rattle.std.specs.Prelude.{◌≡◌, not, ◌||◌, ℕ, ◌≤◌, ltb};
 ghost use Rattle.scan.specs.Entry.{at};
 ghost use Rattle.scan.specs.Lowest.{any};
 ghost use Rattle.faults.specs.Faults.{overflows, strays, highest, joined_bits, is_used, is_leftover};
@@ -9,7 +9,7 @@ ghost use Rattle.faults.specs.Faults.{overflows, strays, highest, joined_bits, i
 use ends::lower;
 
 // What the entries of an array are.
-#[derive(Clone, Copy)]
+#[derive(Clone, Copy, Debug, PartialEq, Eq)]
 pub enum Kind {
     Direction,
     State,
@@ -44,69 +44,43 @@ fn joined(a: u8, b: u8, c: u8) -> u8
     a | b | c
 }
 
-// Whether an entry of the block at `from`, in one of three arrays, is not zero: some bit of some entry is set.
-fn is_used<'a>(
-    directions: &[u8; 256],
-    first: &'a [u8; 256],
-    second: &'a [u8; 256],
-    from: usize,
-) -> bool
-    requires { from + 64 ≤ 256 }
-    ensures { result ≡ any (λ j. is_used directions.now first.now second.now (from + j)) 64 }
-{
-    let mut bits: u8 = 0;
-    let mut j: usize = 0;
-    while j < BLOCK {
-        bits = bits | joined(directions[from + j], first[from + j], second[from + j]);
-        j += 1;
-    }
-    bits != 0
+// The directions of a plan and the states of two wavelengths.
+#[derive(Clone, Copy)]
+struct Entries<'a, 'b> {
+    directions: &'a [u8; 256],
+    first: &'b [u8; 256],
+    second: &'b [u8; 256],
 }
 
-// Whether an entry from `from` on is not zero, where less than a block is left.
-fn is_tail_used<'a>(
-    directions: &[u8; 256],
-    first: &'a [u8; 256],
-    second: &'a [u8; 256],
-    from: usize,
-) -> bool
-    ensures { result ≡ any (is_leftover from (is_used directions.now first.now second.now)) 256 }
-{
-    let mut bits: u8 = 0;
-    let mut i = from;
-    while i < 256 {
-        bits = bits | joined(directions[i], first[i], second[i]);
-        i += 1;
-    }
-    bits != 0
-}
-
-// Whether an entry past the last link is not zero. The last block is a whole one, so that no entry is tested by itself.
-fn has_leftover<'a>(
-    links: u16,
-    directions: &[u8; 256],
-    first: &'a [u8; 256],
-    second: &'a [u8; 256],
-) -> bool
-    ensures { result ≡ any (is_leftover links (is_used directions.now first.now second.now)) 256 }
-{
-    let mut i = links as usize;
-    if LAST_BLOCK < i {
-        return is_tail_used(directions, first, second, i);
-    }
-    while i < 256 {
-        if is_used(directions, first, second, lower(i, LAST_BLOCK)) {
-            return true;
+impl<'a, 'b> Entries<'a, 'b> {
+    // Whether an entry from `from` to below `end` is not zero in one of the arrays: some bit of some entry is set.
+    fn is_used(&self, from: usize, end: usize) -> bool
+        requires { end ≤ 256 }
+        ensures { result ≡ any (is_leftover from (is_used self.now.directions.now self.now.first.now self.now.second.now)) end }
+    {
+        let mut bits = 0;
+        for i in from..end {
+            bits = bits | joined(self.directions[i], self.first[i], self.second[i]);
         }
-        i += BLOCK;
+        bits != 0
     }
-    false
-}
 
-fn larger(v: u8, w: u8) -> u8
-    ensures { result ≡ max v w }
-{
-    if v < w { w } else { v }
+    // Whether an entry past the last link is not zero. The last block is a whole one, so that no entry is tested by itself.
+    fn has_leftover(&self, links: u16) -> bool
+        ensures { result ≡ any (is_leftover links (is_used self.now.directions.now self.now.first.now self.now.second.now)) 256 }
+    {
+        let from = links as usize;
+        if LAST_BLOCK < from {
+            return self.is_used(from, 256);
+        }
+        for i in (from..256).step_by(BLOCK) {
+            let start = lower(i, LAST_BLOCK);
+            if self.is_used(start, start + BLOCK) {
+                return true;
+            }
+        }
+        false
+    }
 }
 
 // The largest entry: it is above just what some entry is above.
@@ -114,10 +88,8 @@ fn largest(entries: &[u8; 256]) -> u8
     ensures { (top : ℕ) → ltb top result ≡ any (λ i. ltb top (at entries.now i)) 256 }
 {
     let mut top: u8 = 0;
-    let mut i: usize = 0;
-    while i < 256 {
-        top = larger(top, entries[i]);
-        i += 1;
+    for &v in entries {
+        top = top.max(v);
     }
     top
 }
@@ -132,10 +104,15 @@ pub fn has_bad_entry<'a>(
 ) -> bool
     ensures { result ≡ (overflows links 1 directions.now || (overflows links 4 first.now || overflows links 4 second.now)) }
 {
-    let top = larger(largest(first), largest(second));
+    let top = largest(first).max(largest(second));
+    let entries = Entries {
+        directions,
+        first,
+        second,
+    };
     is_above(Kind::Direction, largest(directions))
         | is_above(Kind::State, top)
-        | has_leftover(links, directions, first, second)
+        | entries.has_leftover(links)
 }
 
 // Whether a node not below N is reached, on one of two wavelengths: one loop tests both.
@@ -143,10 +120,8 @@ pub fn has_stray<'a>(nodes: u8, first: &'a [bool; 64], second: &'a [bool; 64]) -
     ensures { result ≡ (strays nodes first.now || strays nodes second.now) }
 {
     let mut bad = false;
-    let mut v = nodes as usize;
-    while v < 64 {
+    for v in nodes as usize..64 {
         bad = bad | (first[v] | second[v]);
-        v += 1;
     }
     bad
 }

@@ -2,7 +2,7 @@
 use Rattle.std.specs.Prelude.{ℕ, ◌+◌, ◌^◌, List, [], ◌∷◌, Bool, cond, not, length, get_or, take, ltb, leb}
 use Rattle.scan.specs.Bytes.{number}
 use Rattle.mesh.specs.declared.Link.{Link}
-use Rattle.mesh.specs.declared.Answer.{Answer}
+use Rattle.mesh.specs.Answer.{Answer}
 use Rattle.mesh.specs.Mesh.{must, zero_link, link_answer}
 use Rattle.fields.specs.declared.Fields.{Fields}
 use Rattle.fields.specs.Field.{Field, field, widths_of, sum, fields_bytes, bit_map, stands, extent, needless}

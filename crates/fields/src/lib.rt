@@ -26,7 +26,7 @@ pub const LONGEST_RECORD: usize = 1 + LOW + HIGH + LENGTH + PAIR + DUCT;
 const RESERVED: u8 = 32;
 
 // The fields of a link. An absent high end can be 256, so it is wider than a link's.
-#[derive(Clone, Copy)]
+#[derive(Clone, Copy, Debug, PartialEq, Eq)]
 pub struct Fields {
     pub low: u8,
     pub high: u16,
@@ -63,14 +63,13 @@ fn fields_length(b: u8) -> usize
 }
 
 // The length of a record with the bit map b; 0 where a reserved bit stands.
+// form: a number and not an Option: the definition record_length, a table of 256 numbers by bit map, and README.md's list of functions hold it
+#[tactic(auto, unfolding(crate::specs::Record::record_length))]
 pub fn record_length(b: u8) -> usize
     ensures value { result ≡ record_length b }
     ensures within { result ≤ longest_record }
 {
-    if reserved(b) {
-        return 0;
-    }
-    1 + fields_length(b)
+    if reserved(b) { 0 } else { 1 + fields_length(b) }
 }
 
 // 1 where a field differs from its absent value, else 0.
@@ -78,10 +77,11 @@ fn flag(value: u32, absent: u32) -> u8
     ensures value { result ≡ bit (differs (field 0 value absent)) }
     ensures within { result ≤ 1 }
 {
-    if value == absent { 0 } else { 1 }
+    u8::from(value != absent)
 }
 
 // The bit map of these fields after the link prev.
+#[tactic(auto, unfolding(crate::specs::Field::bit_map))]
 pub fn bit_map(prev: Link, f: Fields) -> u8
     ensures { result ≡ bit_map (fields_of prev f) }
 {

@@ -1,6 +1,7 @@
 -- What lent arrays describe, and tests on a link in them. Definitions only.
-use Rattle.std.specs.Prelude.{ℕ, Bool, not, ◌&&◌, List, eqb, leb}
+use Rattle.std.specs.Prelude.{ℕ, min, Bool, not, ◌&&◌, List, eqb, leb}
 use Rattle.scan.specs.Entry.{at}
+use Rattle.flood.specs.declared.Arcs.{Arcs}
 use Rattle.flood.specs.Digraph.{Digraph, Failure}
 use Rattle.flood.specs.Machine.{Flood, under_way, live}
 
@@ -13,6 +14,13 @@ graph n tails heads links = record { nodes = n; links = links; tail = at tails; 
 -- from x to y; a link is blocked where its start is not its tail
 abbrev pub failure : List ℕ → List ℕ → ℕ → ℕ → Failure
 failure tails starts x y = record { source = x; target = y; blocked = λ i. not (eqb (at starts i) (at tails i)) }
+
+-- the digraph of n nodes with the first 256 of these arcs, and the failure in it
+abbrev pub graph_on : ℕ → Arcs → Digraph
+graph_on n a = graph n a.tails a.heads (min a.count 256)
+
+abbrev pub failure_on : Arcs → Failure
+failure_on a = failure a.tails a.starts a.source a.target
 
 abbrev pub flood : List ℕ → List Bool → Flood
 flood states reached = record { states = states; reached = reached }

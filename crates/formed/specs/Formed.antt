@@ -3,13 +3,12 @@ use Rattle.std.specs.Prelude.{ℕ, Bool, false, not, ◌||◌, leb}
 use Rattle.faults.specs.Faults.{overflows, strays}
 use Rattle.mesh.specs.declared.Mesh.{Mesh}
 use Rattle.mesh.specs.declared.Plan.{Plan}
-use Rattle.mesh.specs.declared.Answer.{Answer}
-use Rattle.mesh.specs.declared.Answer.TheVariants.{Accepted}
+use Rattle.mesh.specs.Answer.{Answer, Accepted}
 use Rattle.mesh.specs.Mesh.{must, and_then, mesh_answer}
 use Rattle.flood.specs.declared.Flood.{Flood}
 use Rattle.wavelengths.specs.declared.Floods.{Floods}
-use Rattle.formed.specs.declared.Cut.{Cut}
-use Rattle.formed.specs.declared.Cut.TheVariants as cut
+use Rattle.formed.specs.Cut.{Cut}
+use Rattle.formed.specs.Cut as cut
 
 -- the cut link; 0 where there is none
 abbrev pub cut_link : Cut → ℕ

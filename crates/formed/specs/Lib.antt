@@ -1,3 +1,4 @@
+pub mod Cut
 pub mod Formed
 pub mod WellFormed
 pub mod Pieces

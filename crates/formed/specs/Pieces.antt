@@ -1,10 +1,9 @@
 -- The record test by the pieces that a function is lent, after the answer to the mesh. Definitions only.
 use Rattle.std.specs.Prelude.{ℕ, Bool, not, ◌||◌, List}
-use Rattle.mesh.specs.declared.Answer.{Answer}
-use Rattle.mesh.specs.declared.Answer.TheVariants.{Accepted}
+use Rattle.mesh.specs.Answer.{Answer, Accepted}
 use Rattle.mesh.specs.Mesh.{must, and_then}
 use Rattle.wavelengths.specs.declared.Floods.{Floods}
-use Rattle.formed.specs.declared.Cut.{Cut}
+use Rattle.formed.specs.Cut.{Cut}
 use Rattle.faults.specs.Faults.{overflows, strays}
 use Rattle.formed.specs.Formed.{misplaced}
 

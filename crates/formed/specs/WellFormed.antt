@@ -3,15 +3,15 @@ use Rattle.std.specs.Prelude.{ℕ, ◌<◌, ◌≤◌, ◌≡◌, true, List}
 use Rattle.scan.specs.Entry.{at, has}
 use Rattle.mesh.specs.declared.Mesh.{Mesh}
 use Rattle.mesh.specs.declared.Plan.{Plan}
-use Rattle.mesh.specs.declared.Answer.TheVariants.{Accepted, Refused}
+use Rattle.mesh.specs.Answer.{Accepted, Refused}
 use Rattle.mesh.specs.Mesh.{mesh_answer}
 use Rattle.mesh.specs.WellFormed.{WellFormed}
 use Rattle.flood.specs.declared.Flood.{Flood}
 use Rattle.wavelengths.specs.declared.Floods.{Floods}
 use Rattle.wavelengths.specs.declared.Wavelength.{Wavelength}
 use Rattle.wavelengths.specs.Wavelength.{on}
-use Rattle.formed.specs.declared.Cut.{Cut}
-use Rattle.formed.specs.declared.Cut.TheVariants as cuts
+use Rattle.formed.specs.Cut.{Cut}
+use Rattle.formed.specs.Cut as cuts
 
 -- the entry of each link is at most `top`, and each entry past the last link is zero
 pub record Bounded (links top : ℕ) (entries : List ℕ) : Type 0 where

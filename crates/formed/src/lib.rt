@@ -5,86 +5,63 @@ ghost use Rattle.std.specs.Prelude.{◌≡◌};
 ghost use Rattle.mesh.specs.Parts.{parts_answer};
 ghost use Rattle.formed.specs.Formed.{cut_link, misplaced};
 ghost use Rattle.formed.specs.Pieces.{ill_formed, record_after};
-ghost use Rattle.flood.specs.Lent.{flood};
 ghost use Rattle.wavelengths.specs.Wavelength.{pair};
 
 use faults::{has_bad_entry, has_stray};
-use mesh::Answer;
-
-// The cut link, or none.
-#[derive(Clone, Copy)]
-pub enum Cut {
-    Nothing,
-    Link(u16),
-}
+use flood::Flood;
+use mesh::Reason;
 
 // The cut link; 0 where there is none.
-pub fn cut_link(cut: Cut) -> u16
+// form: 0 for none, which the clause says, and README.md of the function: it is read only where a cut stands.
+pub fn cut_link(cut: Option<u16>) -> u16
     ensures { result ≡ cut_link cut }
 {
-    match cut {
-        Cut::Link(k) => k,
-        Cut::Nothing => 0,
-    }
+    cut.unwrap_or(0)
 }
 
 // Whether the cut is neither a link nor none.
-fn is_misplaced(links: u16, cut: Cut) -> bool
+fn is_misplaced(links: u16, cut: Option<u16>) -> bool
     ensures { result ≡ misplaced links cut }
 {
-    match cut {
-        Cut::Link(k) => links <= k,
-        Cut::Nothing => false,
-    }
+    cut.is_some_and(|k| links <= k)
 }
 
 // Whether the plan, the cut or a flood is ill formed, with so many nodes and links.
-fn is_ill_formed<'a>(
+fn is_ill_formed(
     nodes: u8,
     count: u16,
     directions: &[u8; 256],
-    cut: Cut,
-    states1: &'a [u8; 256],
-    reached1: &'a [bool; 64],
-    states2: &'a [u8; 256],
-    reached2: &'a [bool; 64],
+    cut: Option<u16>,
+    first: &Flood,
+    second: &Flood,
 ) -> bool
-    ensures { result ≡ ill_formed nodes count directions.now cut
-        (pair (flood states1.now reached1.now) (flood states2.now reached2.now)) }
+    ensures { result ≡ ill_formed nodes count directions.now cut (pair first.now second.now) }
 {
-    has_bad_entry(count, directions, states1, states2)
+    has_bad_entry(count, directions, &first.states, &second.states)
         | is_misplaced(count, cut)
-        | has_stray(nodes, reached1, reached2)
+        | has_stray(nodes, &first.reached, &second.reached)
 }
 
-// The record of a session with these pieces: N, L, whether the mesh's entries past the last link are zero, the ends of its links, and the rest, the states
-// and reached nodes of wavelength 1 and then those of wavelength 2. The mesh checks, then 13.
-pub fn record_answer<'a>(
+// The record of a session with these pieces: N, L, whether the mesh's entries past the last link are zero, the ends of its links, and the rest, the flood on
+// wavelength 1 and then that on wavelength 2. The mesh checks, then 13.
+pub fn record_answer(
     nodes: u8,
     count: u16,
     zeros: bool,
     ends: &[u16; 256],
     directions: &[u8; 256],
-    cut: Cut,
-    states1: &'a [u8; 256],
-    reached1: &'a [bool; 64],
-    states2: &'a [u8; 256],
-    reached2: &'a [bool; 64],
-) -> Answer
-    ensures { result ≡ record_after (parts_answer nodes count zeros ends.now) nodes count directions.now cut
-        (pair (flood states1.now reached1.now) (flood states2.now reached2.now)) }
+    cut: Option<u16>,
+    first: &Flood,
+    second: &Flood,
+) -> Result<(), Reason>
+    ensures { result ≡ record_after (parts_answer nodes count zeros ends.now) nodes count directions.now cut (pair first.now second.now) }
 {
-    let tested = mesh::parts_answer(nodes, count, zeros, ends);
-    let Answer::Accepted = tested else {
-        return tested;
-    };
-    if is_ill_formed(
-        nodes, count, directions, cut, states1, reached1, states2, reached2,
-    ) {
-        return Answer::Refused {
+    mesh::parts_answer(nodes, count, zeros, ends)?;
+    if is_ill_formed(nodes, count, directions, cut, first, second) {
+        return Err(Reason {
             number: 13,
             place: 0,
-        };
+        });
     }
-    Answer::Accepted
+    Ok(())
 }

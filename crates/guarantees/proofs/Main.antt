@@ -7,7 +7,7 @@ use Rattle.scan.specs.Entry.{at, has}
 use Rattle.scan.specs.Total.{bit, count}
 use Rattle.scan.specs.Bytes.{AreBytes}
 use Rattle.mesh.specs.declared.Mesh.{Mesh}
-use Rattle.mesh.specs.declared.Answer.TheVariants.{Accepted, Refused}
+use Rattle.mesh.specs.Answer.{Accepted, Refused}
 use Rattle.mesh.specs.Mesh.{zero_mesh, follows, ends_answer, mesh_answer}
 use Rattle.mesh.specs.WellFormed.{WellFormed, InRange, link, duct, SameEnds, OnlyLink}
 use Rattle.mesh.specs.Refusal.{Below, Refusal, previous}
@@ -36,7 +36,7 @@ use Rattle.covetureen.specs.Interface.{link_answer}
 use Rattle.mesh.specs.declared.Plan.{Plan}
 use Rattle.wavelengths.specs.declared.Wavelength.{Wavelength}
 use Rattle.wavelengths.specs.declared.Wavelength.TheVariants as wavelengths
-use Rattle.formed.specs.declared.Cut.TheVariants.{Link}
+use Rattle.formed.specs.Cut.{Link}
 use Rattle.recovery.specs.declared.Session.{Session}
 use Rattle.formed.specs.Formed.{start_answer}
 use Rattle.formed.specs.WellFormed as formed
@@ -99,8 +99,8 @@ use Rattle.collection.specs.Meaning.{Connected}
 use Rattle.collection.specs.Meaning as collectionQuery
 use Rattle.collection.proofs.Laws.Folded.{collects}
 use Rattle.collection.proofs.Laws.Query as asking
-use Rattle.heaviest.specs.declared.Asked.TheVariants.{Middles}
-use Rattle.heaviest.specs.declared.Asked.TheVariants as drills
+use Rattle.heaviest.specs.Asked.{Middles}
+use Rattle.heaviest.specs.Asked as drills
 use Rattle.heaviest.specs.Drill.{drill, drill_of}
 use Rattle.heaviest.specs.Input.{Names, asked}
 use Rattle.heaviest.proofs.Laws.Input.{asked-names, refused-names, asked-take}

@@ -4,7 +4,7 @@ use Rattle.std.specs.Prelude.{ℕ, ◌-◌, true, cond, eqb, ◌≡◌, List, []
 use Rattle.scan.specs.Entry.{at}
 use Rattle.scan.specs.Passing.{passing}
 use Rattle.mesh.specs.declared.Link.{Link}
-use Rattle.mesh.specs.declared.Answer.TheVariants.{Accepted, Refused}
+use Rattle.mesh.specs.Answer.{Accepted, Refused}
 use Rattle.mesh.specs.Mesh.{zero_link, zero_mesh}
 use Rattle.codec.specs.declared.Decoded.{Decoded}
 use Rattle.planner.specs.declared.Planned.{Planned}
@@ -16,7 +16,7 @@ use Rattle.wavelengths.specs.Merge.{Turn, turn, links_on, order}
 use Rattle.recovery.specs.declared.Session.{Session}
 use Rattle.recovery.specs.Session.{floods}
 use Rattle.recovery.specs.declared.Delivered.TheVariants.{Taken, TurnedBack, Released}
-use Rattle.recovery.specs.declared.Report.TheVariants.{Made}
+use Rattle.recovery.specs.Answers.{Made}
 use Rattle.recovery.specs.declared.Routed.{Routed}
 use Rattle.recovery.specs.Calls.{digraph, failure, after_delivery, routed_as, routed}
 use Rattle.history.specs.History.{Call, Answered, by_value, cut, deliver, run, mend, status, next, after, answers, accepted}

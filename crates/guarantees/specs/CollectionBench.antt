@@ -2,7 +2,7 @@
 -- another; two nodes with a link; and the refusals (02, request 5). Definitions only; the theorem is `collection_bench` of Main.
 use Rattle.std.specs.Prelude.{ℕ, ◌≡◌, Bool, true, false, List, [], ◌∷◌, replicate}
 use Rattle.mesh.specs.declared.Mesh.{Mesh}
-use Rattle.mesh.specs.declared.Answer.TheVariants.{Accepted, Refused}
+use Rattle.mesh.specs.Answer.{Accepted, Refused}
 use Rattle.mesh.specs.Mesh.{zero_link}
 use Rattle.depth_first.specs.Folded.{Met}
 use Rattle.collection.specs.declared.Collected.{Collected}

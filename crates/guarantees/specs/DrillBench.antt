@@ -7,8 +7,7 @@ use Rattle.wavelengths.specs.declared.Wavelength.{Wavelength}
 use Rattle.wavelengths.specs.declared.Wavelength.TheVariants.{First, Second}
 use Rattle.topology.specs.Backup.{backup}
 use Rattle.codec.specs.Book.{book_of}
-use Rattle.heaviest.specs.declared.Asked.{Asked}
-use Rattle.heaviest.specs.declared.Asked.TheVariants.{Middles, Refused}
+use Rattle.heaviest.specs.Asked.{Asked, Middles, Refused}
 use Rattle.heaviest.specs.Drill.{drill}
 use Rattle.heaviest.specs.Input.{asked}
 use Rattle.history.specs.History.{Call, by_value, cut, deliver, run, mend, status}

@@ -2,8 +2,7 @@
 -- records with the new field (02, request 4). Definitions only; the theorem is `ducts_bench` of Main.
 use Rattle.std.specs.Prelude.{ℕ, ◌≡◌, List, [], ◌∷◌, replicate}
 use Rattle.mesh.specs.declared.Mesh.{Mesh}
-use Rattle.mesh.specs.declared.Answer.{Answer}
-use Rattle.mesh.specs.declared.Answer.TheVariants.{Accepted, Refused}
+use Rattle.mesh.specs.Answer.{Answer, Accepted, Refused}
 use Rattle.mesh.specs.Mesh.{zero_link, mesh_answer}
 use Rattle.mesh.specs.WellFormed.{SameEnds}
 use Rattle.codec.specs.Book.{decoded}

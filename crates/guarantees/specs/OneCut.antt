@@ -1,10 +1,10 @@
 -- What one cut on the plan leads to, as `one_cut` gives it and the functions for C and Rust tell it, in the words of demand 3. Definitions only.
 use Rattle.std.specs.Prelude.{ℕ, ◌≡◌, List, [], ◌∷◌}
 use Rattle.mesh.specs.declared.Mesh.{Mesh}
-use Rattle.mesh.specs.declared.Answer.TheVariants.{Accepted}
+use Rattle.mesh.specs.Answer.{Accepted}
 use Rattle.wavelengths.specs.declared.Wavelength.{Wavelength}
 use Rattle.wavelengths.specs.declared.Wavelength.TheVariants.{First}
-use Rattle.formed.specs.declared.Cut.TheVariants.{Link}
+use Rattle.formed.specs.Cut.{Link}
 use Rattle.recovery.specs.Calls.{routed_as, route_of, route_length_of}
 use Rattle.history.specs.History.{Call, by_value, cut, run}
 use Rattle.history.specs.Log.{deliveries_on}

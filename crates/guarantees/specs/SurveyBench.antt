@@ -1,6 +1,6 @@
 -- Surveys of small meshes. Definitions only; the theorem is `survey_bench` of Main.
 use Rattle.std.specs.Prelude.{ℕ, ◌-◌, ◌≡◌, List, [], ◌∷◌, ◌++◌, length, replicate}
-use Rattle.mesh.specs.declared.Answer.TheVariants.{Accepted, Refused}
+use Rattle.mesh.specs.Answer.{Accepted, Refused}
 use Rattle.bridges.specs.declared.Surveyed.{Surveyed}
 use Rattle.bridges.specs.Survey.{surveyed}
 use Rattle.guarantees.specs.Bench.{ends}

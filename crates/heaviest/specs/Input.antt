@@ -1,8 +1,7 @@
 -- The input of the drill's program (02, request 6): m in decimal without leading zeros, with or without one line feed after it. Definitions only.
 use Rattle.std.specs.Prelude.{ℕ, ◌+◌, ◌*◌, ◌-◌, ◌/◌, ◌%◌, ◌≤◌, ◌≡◌, ◌⊎◌, Bool, cond, not, ◌&&◌, List, [], ◌∷◌, ◌++◌, leb, ltb, eqb, length, take}
 use Rattle.scan.specs.Entry.{at}
-use Rattle.heaviest.specs.declared.Asked.{Asked}
-use Rattle.heaviest.specs.declared.Asked.TheVariants.{Middles, Refused}
+use Rattle.heaviest.specs.Asked.{Asked, Middles, Refused}
 use Rattle.heaviest.specs.Drill.{is_size}
 
 -- ---- in 02's words

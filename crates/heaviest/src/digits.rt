@@ -1,61 +1,27 @@
 // A number of one or two decimal digits, with or without one line feed after it.
-ghost use Rattle.std.specs.Prelude.{◌≡◌};
+ghost use Rattle.std.specs.Prelude.{◌≡◌, MatchOption, take};
 ghost use Rattle.heaviest.specs.Input.{value_of};
 
 const LINE_FEED: u8 = 10;
 
-// How many bytes stand before one line feed at the end.
-pub(crate) fn until_feed(input: &[u8]) -> usize
-    ensures { result ≡ Rattle.heaviest.specs.Input.until_feed input.now }
+// What stands before one line feed at the end.
+pub(crate) fn until_feed(input: &[u8]) -> &[u8]
+    ensures { result.now ≡ take (Rattle.heaviest.specs.Input.until_feed input.now) input.now }
 {
-    let n = input.len();
-    if n == 0 {
-        return 0;
+    match input {
+        [front @ .., LINE_FEED] => front,
+        _ => input,
     }
-    if input[n - 1] == LINE_FEED { n - 1 } else { n }
 }
 
-fn is_digit(b: u8) -> bool
-    ensures { result ≡ Rattle.heaviest.specs.Input.is_digit b }
+// The number that the bytes write: one digit, or two, the first of them not 0.
+#[tactic(auto, unfolding(crate::specs::Input::value_of))]
+pub(crate) fn number(digits: &[u8]) -> Option<u8>
+    ensures { MatchOption result (value_of digits.now ≡ 0) (λ n. n ≡ value_of digits.now) }
 {
-    if b < b'0' {
-        return false;
+    match digits {
+        [a @ b'0'..=b'9'] => Some(a - b'0'),
+        [a @ b'1'..=b'9', b @ b'0'..=b'9'] => Some(10 * (a - b'0') + (b - b'0')),
+        _ => None,
     }
-    b <= b'9'
-}
-
-// The number that one digit writes; 0 for another byte.
-fn one_digit(a: u8) -> u8
-    ensures { result ≡ Rattle.heaviest.specs.Input.one_digit a }
-{
-    if is_digit(a) { a - b'0' } else { 0 }
-}
-
-// The number that two digits write, the first of them not 0; 0 for other bytes.
-fn two_digits(a: u8, b: u8) -> u8
-    ensures { result ≡ Rattle.heaviest.specs.Input.two_digits a b }
-{
-    if !is_digit(a) {
-        return 0;
-    }
-    if !is_digit(b) {
-        return 0;
-    }
-    if a == b'0' {
-        return 0;
-    }
-    10 * (a - b'0') + (b - b'0')
-}
-
-// The number that the bytes write; 0 where they are not one or two such digits.
-pub(crate) fn number(digits: &[u8]) -> u8
-    ensures { result ≡ value_of digits.now }
-{
-    if digits.len() == 1 {
-        return one_digit(digits[0]);
-    }
-    if digits.len() == 2 {
-        return two_digits(digits[0], digits[1]);
-    }
-    0
 }

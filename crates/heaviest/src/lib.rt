@@ -13,47 +13,35 @@ use mesh::Mesh;
 // The most middle nodes: with the two outer ones they are 64.
 pub const MOST: u8 = 62;
 
-// What an input asks for: a drill with so many middle nodes, 1 to 62, or none.
-#[derive(Clone, Copy)]
-pub enum Asked {
-    Middles(u8),
-    Refused,
-}
-
 // Whether there is a drill with so many middle nodes.
 fn is_size(m: u8) -> bool
     ensures { result ≡ Rattle.heaviest.specs.Drill.is_size m }
 {
-    if m < 1 {
-        return false;
-    }
-    m <= MOST
+    matches!(m, 1..=MOST)
 }
 
 // 02's input: m from 1 to 62 in decimal without leading zeros, with or without one line feed after it. Any other input is refused.
-pub fn read(input: &[u8]) -> Asked
+#[tactic(auto, unfolding(crate::specs::Input::asked))]
+pub fn read(input: &[u8]) -> Option<u8>
     ensures { result ≡ asked input.now }
 {
-    let n = digits::until_feed(input);
-    let m = digits::number(&input[..n]);
-    if is_size(m) {
-        return Asked::Middles(m);
+    match digits::number(digits::until_feed(input)) {
+        Some(m) if is_size(m) => Some(m),
+        _ => None,
     }
-    Asked::Refused
 }
 
 // How many middle nodes an input asked for; 0 where it was refused.
-pub fn middles(asked: Asked) -> u8
+// form: 0 where it was refused, which the clause says and the drill of 0 middle nodes, the all-zero mesh, rests on.
+pub fn middles(asked: Option<u8>) -> u8
     ensures { result ≡ middles_of asked }
 {
-    match asked {
-        Asked::Middles(m) => m,
-        Asked::Refused => 0,
-    }
+    asked.unwrap_or(0)
 }
 
 // 02's mesh: middle nodes 0 to m - 1, each linked to nodes m and m + 1, and a link between these two. For any other number than 1 to 62 it is
 // the all-zero mesh, which no call accepts.
+#[tactic(auto, unfolding(crate::specs::Drill::drill_of))]
 pub fn drill(m: u8) -> Mesh
     ensures { result ≡ drill_of m }
 {

@@ -13,14 +13,13 @@ use Rattle.flood.specs.Path.{Chain}
 use Rattle.wavelengths.specs.declared.Wavelength.{Wavelength}
 use Rattle.wavelengths.specs.Wavelength.{number_of, on}
 use Rattle.mesh.specs.declared.Mesh.{Mesh}
-use Rattle.mesh.specs.declared.Answer.TheVariants.{Accepted}
+use Rattle.mesh.specs.Answer.{Accepted}
 use Rattle.mesh.specs.WellFormed.{lengths}
 use Rattle.planner.specs.Plan.{planned}
-use Rattle.formed.specs.declared.Cut.{Cut}
-use Rattle.formed.specs.declared.Cut.TheVariants.{Nothing, Link}
+use Rattle.formed.specs.Cut.{Cut, Nothing, Link}
 use Rattle.recovery.specs.declared.Session.{Session}
 use Rattle.recovery.specs.Session.{floods}
-use Rattle.recovery.specs.declared.Status.TheVariants as statuses
+use Rattle.recovery.specs.Answers as outcomes
 use Rattle.recovery.specs.Formed.{record_answer}
 use Rattle.topology.specs.Backup.{backup}
 use Rattle.recovery.specs.Calls.{digraph, failure, started, after_delivery, route_length_of, route_of, routed_as, routed}
@@ -70,7 +69,7 @@ module _ (s : Session) (w : Wavelength) where
   -- at rest on both wavelengths under a cut: status accepts every link and answers its state, that none is under way, and a route length, which is that of
   -- the links that the route query gives
   pub record Measured : Type 0 where
-    pub told : (j : ℕ) → j < s.mesh.count → reply (status j (number_of w)) s ≡ statuses.Link (state_on j) 0 (route_length_of s w)
+    pub told : (j : ℕ) → j < s.mesh.count → reply (status j (number_of w)) s ≡ outcomes.Link (state_on j) 0 (route_length_of s w)
     pub length : LengthAlong (lengths s.mesh) (route_of s w) (route_length_of s w)
 
   -- how many deliveries the links have had, by their states

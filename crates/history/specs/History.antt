@@ -1,14 +1,11 @@
 -- A list of calls, and what each answers: the words of demand 3. Definitions only.
-use Rattle.std.specs.Prelude.{ℕ, Bool, true, false, not, List, [], ◌∷◌}
-use Rattle.mesh.specs.declared.Answer.{Answer}
-use Rattle.mesh.specs.declared.Answer.TheVariants.{Accepted, Refused}
+use Rattle.std.specs.Prelude.{ℕ, Bool, true, false, not, List, [], ◌∷◌, Err, Ok}
+use Rattle.mesh.specs.Answer.{Answer, Accepted, Refused}
 use Rattle.recovery.specs.declared.Session.{Session}
 use Rattle.recovery.specs.declared.Delivered.{Delivered}
 use Rattle.recovery.specs.declared.Delivered.TheVariants as delivered
-use Rattle.recovery.specs.declared.Report.{Report}
-use Rattle.recovery.specs.declared.Report.TheVariants as report
-use Rattle.recovery.specs.declared.Status.{Status}
-use Rattle.recovery.specs.declared.Status.TheVariants as statuses
+use Rattle.recovery.specs.Answers.{Report, Status}
+use Rattle.recovery.specs.Answers as outcomes
 use Rattle.recovery.specs.Calls.{after_cut, after_delivery, after_run, after_mend, status_of}
 
 -- how a call is made: on a session by value, or in place on one that the host lends (01's lent calls)
@@ -55,24 +52,24 @@ accepted (delivered.Refused number place) = false
 -- a call was refused
 abbrev pub is_refusal : Answer → Bool
 is_refusal Accepted = false
-is_refusal (Refused number place) = true
+is_refusal (Err r) = true
 
 abbrev pub refused : (c : Call) → Reply c → Bool
 refused (cut f k) a = is_refusal a
 refused (deliver f k n) d = not (accepted d)
-refused (run a) (report.Made count rest) = false
-refused (run a) (report.Refused number place) = true
+refused (run a) (Ok o) = false
+refused (run a) (Err r) = true
 refused (mend f k) a = is_refusal a
-refused (status k n) (statuses.Link state under_way route) = false
-refused (status k n) (statuses.Refused number place) = true
+refused (status k n) (Ok l) = false
+refused (status k n) (Err r) = true
 
 -- the answer that refuses a call with this number at this place
 abbrev pub refused_at : (c : Call) → ℕ → ℕ → Reply c
 refused_at (cut f k) number place = Refused number place
 refused_at (deliver f k n) number place = delivered.Refused number place
-refused_at (run a) number place = report.Refused number place
+refused_at (run a) number place = Refused number place
 refused_at (mend f k) number place = Refused number place
-refused_at (status k n) number place = statuses.Refused number place
+refused_at (status k n) number place = Refused number place
 
 -- the session after the calls, each on the session as the one before returned or left it
 unfoldable pub after : List Call → Session → Session

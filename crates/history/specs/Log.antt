@@ -1,14 +1,14 @@
 -- What the answers of a list of calls say: the cut that stands, and the deliveries made since, in order (01, "Demand 3: its list and its words"; 02,
 -- request 2). Definitions only.
-use Rattle.std.specs.Prelude.{ℕ, cond, List, [], ◌∷◌, ◌++◌, length}
-use Rattle.mesh.specs.declared.Answer.TheVariants.{Accepted, Refused}
+use Rattle.std.specs.Prelude.{ℕ, cond, List, [], ◌∷◌, ◌++◌, length, Err, Ok}
+use Rattle.mesh.specs.Answer.{Accepted, Refused}
 use Rattle.flood.specs.Digraph.{Digraph}
 use Rattle.wavelengths.specs.declared.Wavelength.{Wavelength}
 use Rattle.wavelengths.specs.Wavelength.{wavelength_of}
 use Rattle.wavelengths.specs.Merge.{Turn, turn, links_on}
-use Rattle.formed.specs.declared.Cut.{Cut}
-use Rattle.formed.specs.declared.Cut.TheVariants as stands
-use Rattle.recovery.specs.declared.Report.TheVariants as report
+use Rattle.formed.specs.Cut.{Cut}
+use Rattle.formed.specs.Cut as stands
+use Rattle.recovery.specs.Answers as outcomes
 use Rattle.history.specs.History.{Call, Reply, Answered, cut, deliver, run, mend, status, accepted}
 use Rattle.history.specs.Rules.{Now, run_made, rule_next}
 
@@ -32,8 +32,8 @@ module _ (g : Digraph) where
   -- wavelengths, so that its deliveries are those that the rules make where they stand at n
   abbrev pub made_by : (c : Call) → Reply c → Now → List Turn
   made_by (deliver f k u) d n = cond (accepted d) (turn k (wavelength_of u) ∷ []) []
-  made_by (run a) (report.Made count rest) n = run_made g n.cut a n
-  made_by (run a) (report.Refused number place) n = []
+  made_by (run a) (Ok o) n = run_made g n.cut a n
+  made_by (run a) (Err r) n = []
   made_by (cut f k) a n = []
   made_by (mend f k) a n = []
   made_by (status k u) a n = []
@@ -41,9 +41,9 @@ module _ (g : Digraph) where
   -- a cut stands from when it was accepted until a mend was
   abbrev pub note : (c : Call) → Reply c → Now → Log → Log
   note (cut f k) Accepted n l = record { cut = stands.Link k; made = [] }
-  note (cut f k) (Refused number place) n l = l
+  note (cut f k) (Err r) n l = l
   note (mend f k) Accepted n l = empty_log
-  note (mend f k) (Refused number place) n l = l
+  note (mend f k) (Err r) n l = l
   note (deliver f k u) d n l = record { cut = l.cut; made = l.made ++ made_by (deliver f k u) d n }
   note (run a) r n l = record { cut = l.cut; made = l.made ++ made_by (run a) r n }
   note (status k u) t n l = l

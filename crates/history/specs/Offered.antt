@@ -5,8 +5,8 @@ use Rattle.flood.specs.Digraph.{Digraph}
 use Rattle.wavelengths.specs.declared.Wavelength.{Wavelength}
 use Rattle.wavelengths.specs.Wavelength.{wavelength_of}
 use Rattle.wavelengths.specs.Merge.{Turn, turn}
-use Rattle.formed.specs.declared.Cut.{Cut}
-use Rattle.formed.specs.declared.Cut.TheVariants as cuts
+use Rattle.formed.specs.Cut.{Cut}
+use Rattle.formed.specs.Cut as cuts
 use Rattle.history.specs.History.{Call, cut, deliver, run, mend, status}
 use Rattle.history.specs.Rules.{Now, cut_both, turn_rule, run_turns, refusal, changed_by, rule_next}
 

@@ -1,26 +1,23 @@
 -- 01's rules of the recovery machine by themselves, with 02's two wavelengths: what a list of calls makes of the cut, the states and the reached nodes,
 -- and what each call answers. They know the back-up digraph and the lengths of its links, and no stored record. Read beside 01, "The recovery machine", and
 -- 02, request 2. Definitions only.
-use Rattle.std.specs.Prelude.{ℕ, zero, suc, Bool, true, false, cond, not, ◌&&◌, ◌||◌, List, [], ◌∷◌, eqb, ltb, length}
+use Rattle.std.specs.Prelude.{ℕ, zero, suc, Bool, true, false, cond, not, ◌&&◌, ◌||◌, List, [], ◌∷◌, eqb, ltb, length, Err}
 use Rattle.scan.specs.Lowest.{lowest, any}
 use Rattle.scan.specs.Total.{count}
 use Rattle.metres.specs.Length.{route_length}
-use Rattle.mesh.specs.declared.Answer.{Answer}
-use Rattle.mesh.specs.declared.Answer.TheVariants.{Accepted, Refused}
+use Rattle.mesh.specs.Answer.{Answer, Accepted, Refused}
 use Rattle.mesh.specs.Mesh.{must}
 use Rattle.flood.specs.Digraph.{Digraph}
 use Rattle.wavelengths.specs.declared.Wavelength.TheVariants.{First, Second}
 use Rattle.wavelengths.specs.declared.Wavelength.{Wavelength}
 use Rattle.wavelengths.specs.Wavelength.{same, is_wavelength, wavelength_of, arcs_on}
 use Rattle.wavelengths.specs.Merge.{Turn, turn}
-use Rattle.formed.specs.declared.Cut.{Cut}
-use Rattle.formed.specs.declared.Cut.TheVariants as cuts
+use Rattle.formed.specs.Cut.{Cut}
+use Rattle.formed.specs.Cut as cuts
 use Rattle.recovery.specs.declared.Delivered.{Delivered}
 use Rattle.recovery.specs.declared.Delivered.TheVariants as delivered
-use Rattle.recovery.specs.declared.Report.{Report}
-use Rattle.recovery.specs.declared.Report.TheVariants as report
-use Rattle.recovery.specs.declared.Status.{Status}
-use Rattle.recovery.specs.declared.Status.TheVariants as statuses
+use Rattle.recovery.specs.Answers.{Report, Status}
+use Rattle.recovery.specs.Answers as outcomes
 use Rattle.history.specs.History.{Call, Reply, cut, deliver, run, mend, status}
 
 -- on one wavelength: the state of each link (0 quiet, 1 offered, 2 taken, 3 refused, 4 released), and which nodes are reached
@@ -184,14 +181,14 @@ module _ (g : Digraph) where
 
   abbrev pub changed_by : {A : Type 0} → Answer → A → A → A
   changed_by Accepted n after = after
-  changed_by (Refused number place) n after = n
+  changed_by (Err r) n after = n
 
   unfoldable pub rule_next : Call → Now → Now
   rule_next c n = changed_by (refusal c n) n (effect c n.cut n)
 
   -- a delivery on wavelength w answers taken, turned back or released, with the node that acted: b, b or a
   abbrev pub deliver_reply : Answer → ℕ → Wavelength → Now → Delivered
-  deliver_reply (Refused number place) j w after = delivered.Refused number place
+  deliver_reply (Err r) j w after = delivered.Refused r.number r.place
   deliver_reply Accepted j w after =
       let v : ℕ = (after.on w).state j in
       cond (eqb v 2) (delivered.Taken ((arcs_on w g).head j))
@@ -200,15 +197,15 @@ module _ (g : Digraph) where
 
   -- a run reports how many deliveries it made on both wavelengths, and whether it is at rest
   abbrev pub run_reply : Answer → List Turn → Now → Report
-  run_reply (Refused number place) made after = report.Refused number place
-  run_reply Accepted made after = report.Made (length made) (rest after)
+  run_reply (Err r) made after = Refused r.number r.place
+  run_reply Accepted made after = outcomes.Made (length made) (rest after)
 
   -- a link's state on wavelength w, how many links are under way on w, and w's route length, by the length of each link
   abbrev pub status_reply : (ℕ → ℕ) → Answer → ℕ → Wavelength → Now → Status
-  status_reply length (Refused number place) j w n = statuses.Refused number place
+  status_reply length (Err r) j w n = Refused r.number r.place
   status_reply length Accepted j w n =
       let v : ℕ → ℕ = (n.on w).state in
-      statuses.Link (v j) (count (λ i. moving (v i)) links) (route_length (stands n.cut && rest n) length v links)
+      outcomes.Link (v j) (count (λ i. moving (v i)) links) (route_length (stands n.cut && rest n) length v links)
 
   -- what each call answers, by the length of each link
   abbrev pub rule_reply : (ℕ → ℕ) → (c : Call) → Now → Reply c

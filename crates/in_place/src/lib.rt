@@ -4,11 +4,11 @@
 ghost use Rattle.std.specs.Prelude.{◌≡◌};
 ghost use Rattle.recovery.specs.Calls.{after_cut, after_delivery, after_mend};
 
-use mesh::Answer;
+use mesh::Reason;
 use recovery::{Delivered, Session};
 
 // Link k is cut.
-pub fn cut(s: &mut Session, link: u16) -> Answer
+pub fn cut(s: &mut Session, link: u16) -> Result<(), Reason>
     ensures { (s.new ≡ (after_cut s.old link).session) × (result ≡ (after_cut s.old link).answer) }
 {
     let changed = Session::cut(*s, link);
@@ -27,7 +27,7 @@ pub fn deliver(s: &mut Session, link: u16, wavelength: u8) -> Delivered
 }
 
 // The cut link is mended.
-pub fn mend(s: &mut Session, link: u16) -> Answer
+pub fn mend(s: &mut Session, link: u16) -> Result<(), Reason>
     ensures { (s.new ≡ (after_mend s.old link).session) × (result ≡ (after_mend s.old link).answer) }
 {
     let mended = Session::mend(*s, link);

@@ -1,8 +1,7 @@
 -- Rows on the calls from before wavelength 2: 01's bench examples P2, P6 and P7, and 01's refusals of each call in order. Definitions only; the theorem over
 -- both tables is `old-bench` of Main.
 use Rattle.std.specs.Prelude.{ℕ, ◌-◌, List, [], ◌∷◌, ◌++◌, length, replicate}
-use Rattle.mesh.specs.declared.Answer.{Answer}
-use Rattle.mesh.specs.declared.Answer.TheVariants.{Accepted, Refused}
+use Rattle.mesh.specs.Answer.{Answer, Accepted, Refused}
 use Rattle.legacy.specs.declared.OldLink.{OldLink}
 use Rattle.legacy.specs.declared.OldCut.TheVariants.{Link}
 use Rattle.legacy.specs.declared.OldSession.{OldSession}

@@ -1,9 +1,8 @@
 -- The calls from before wavelength 2 on the old record: 01's rules with one flood, in the words of `flood`, and the refusals of each call in 01's order.
 -- Read beside 01, "The recovery machine" and "Order". No code makes these calls any more: they say which old sessions there can be. Definitions only.
-use Rattle.std.specs.Prelude.{ℕ, Bool, true, false, cond, not, List, [], ◌∷◌, eqb, ltb}
+use Rattle.std.specs.Prelude.{ℕ, Bool, true, false, cond, not, List, [], ◌∷◌, eqb, ltb, Err}
 use Rattle.scan.specs.Entry.{at}
-use Rattle.mesh.specs.declared.Answer.{Answer}
-use Rattle.mesh.specs.declared.Answer.TheVariants.{Accepted, Refused}
+use Rattle.mesh.specs.Answer.{Answer, Accepted, Refused}
 use Rattle.mesh.specs.Mesh.{must, and_then}
 use Rattle.flood.specs.Digraph.{Digraph, Failure}
 use Rattle.flood.specs.Digraph as failures
@@ -126,7 +125,7 @@ makes (status k) s = []
 -- the session that a call returns: a refused call changes nothing
 abbrev pub changed : Answer → OldSession → OldSession → OldSession
 changed Accepted before after = after
-changed (Refused number place) before after = before
+changed (Err r) before after = before
 
 unfoldable pub next : Call → OldSession → OldSession
 next c s = changed (answer c s) s (effect c s)

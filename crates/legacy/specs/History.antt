@@ -1,8 +1,7 @@
 -- A list of the calls from before wavelength 2: the session after them, the cut that then stands, and the deliveries made since (01, "Demand 3: its list
 -- and its words"). Definitions only.
-use Rattle.std.specs.Prelude.{ℕ, List, [], ◌∷◌, ◌++◌}
-use Rattle.mesh.specs.declared.Answer.{Answer}
-use Rattle.mesh.specs.declared.Answer.TheVariants.{Accepted, Refused}
+use Rattle.std.specs.Prelude.{ℕ, List, [], ◌∷◌, ◌++◌, Err}
+use Rattle.mesh.specs.Answer.{Answer, Accepted, Refused}
 use Rattle.legacy.specs.declared.OldCut.{OldCut}
 use Rattle.legacy.specs.declared.OldCut.TheVariants as cuts
 use Rattle.legacy.specs.declared.OldSession.{OldSession}
@@ -27,7 +26,7 @@ noted (status k) s l = l
 -- a refused call is not noted
 abbrev pub note : Answer → Call → OldSession → Log → Log
 note Accepted c s l = noted c s l
-note (Refused number place) c s l = l
+note (Err r) c s l = l
 
 -- the session after the calls, each on the session as the one before returned it
 unfoldable pub after : List Call → OldSession → OldSession

@@ -3,3 +3,4 @@ pub mod WellFormed
 pub mod Calls
 pub mod History
 pub mod Bench
+pub mod Current

@@ -3,8 +3,7 @@
 use Rattle.std.specs.Prelude.{ℕ, ◌+◌, ◌*◌, min, Bool, false, not, ◌&&◌, ◌||◌, List, eqb, ltb, leb, get_or}
 use Rattle.scan.specs.Lowest.{every}
 use Rattle.scan.specs.Fill.{filled, table_of}
-use Rattle.mesh.specs.declared.Answer.{Answer}
-use Rattle.mesh.specs.declared.Answer.TheVariants.{Accepted}
+use Rattle.mesh.specs.Answer.{Answer, Accepted}
 use Rattle.mesh.specs.Mesh.{must, and_then}
 use Rattle.mesh.specs.Parts.{parts_answer}
 use Rattle.faults.specs.Faults.{overflows, strays}

@@ -1,7 +1,7 @@
 -- What 01 says of the session record from before wavelength 2, in words of order and range, and its refusals, each with its condition. Definitions only.
 use Rattle.std.specs.Prelude.{ℕ, zero, suc, ◌+◌, ◌<◌, ◌≤◌, ◌^◌, ◌≡◌, ◌≢◌, true, length}
 use Rattle.scan.specs.Entry.{has}
-use Rattle.mesh.specs.declared.Answer.TheVariants.{Accepted}
+use Rattle.mesh.specs.Answer.{Accepted}
 use Rattle.mesh.specs.WellFormed.{NotBelow}
 use Rattle.mesh.specs.Refusal.{EndsFault}
 use Rattle.formed.specs.WellFormed.{Bounded}

@@ -7,11 +7,12 @@ ghost use Rattle.legacy.specs.Record.{misplaced, ill_formed, record_answer};
 ghost use Rattle.legacy.specs.WellFormed.{InRange};
 
 use faults::{has_bad_entry, has_stray};
-use mesh::Answer;
+use mesh::{Mesh, Reason};
 
-mod links;
+mod current;
 
-#[derive(Clone, Copy)]
+// form: types of their own beside those of now: these never change, since switches in service hold records of them
+#[derive(Clone, Copy, Debug, PartialEq, Eq)]
 pub struct OldLink {
     pub low: u8,
     pub high: u8,
@@ -19,7 +20,7 @@ pub struct OldLink {
     pub pair: u32,
 }
 
-#[derive(Clone, Copy)]
+#[derive(Clone, Copy, Debug, PartialEq, Eq)]
 pub struct OldMesh {
     pub links: [OldLink; 256],
     pub nodes: u8,
@@ -27,27 +28,28 @@ pub struct OldMesh {
 }
 
 // A direction for each link: 0 from its low to its high end, 1 from its high to its low end.
-#[derive(Clone, Copy)]
+#[derive(Clone, Copy, Debug, PartialEq, Eq)]
 pub struct OldPlan {
     pub directions: [u8; 256],
 }
 
 // The cut link, or none.
-#[derive(Clone, Copy)]
+// form: an enum of its own and not an Option: the old types never change
+#[derive(Clone, Copy, Debug, PartialEq, Eq)]
 pub enum OldCut {
     Nothing,
     Link(u16),
 }
 
 // A state per link (0 quiet, 1 offered, 2 taken, 3 refused, 4 released), and which nodes are reached.
-#[derive(Clone, Copy)]
+#[derive(Clone, Copy, Debug, PartialEq, Eq)]
 pub struct OldFlood {
     pub states: [u8; 256],
     pub reached: [bool; 64],
 }
 
 // Mesh, plan, the cut link or none, and one flood.
-#[derive(Clone, Copy)]
+#[derive(Clone, Copy, Debug, PartialEq, Eq)]
 pub struct OldSession {
     pub mesh: OldMesh,
     pub plan: OldPlan,
@@ -66,35 +68,30 @@ fn is_misplaced(links: u16, cut: OldCut) -> bool
 }
 
 // Whether the plan, the cut or the flood is ill formed. The tests of entries and nodes are those of two floods: the one flood stands for both.
+#[tactic(auto, unfolding(crate::specs::Record::ill_formed))]
 fn is_ill_formed(s: OldSession) -> bool
     ensures { result ≡ ill_formed s }
 {
-    let mesh = s.mesh;
-    let plan = s.plan;
-    let cut = s.cut;
-    let flood = s.flood;
-    has_bad_entry(mesh.count, &plan.directions, &flood.states, &flood.states)
-        | is_misplaced(mesh.count, cut)
-        | has_stray(mesh.nodes, &flood.reached, &flood.reached)
+    has_bad_entry(
+        s.mesh.count,
+        &s.plan.directions,
+        &s.flood.states,
+        &s.flood.states,
+    ) | is_misplaced(s.mesh.count, s.cut)
+        | has_stray(s.mesh.nodes, &s.flood.reached, &s.flood.reached)
 }
 
 // The test of an old session's record: the mesh checks, then 13, each with the place that it had before; links may have the same ends now.
-pub fn check(s: OldSession) -> Answer
+pub fn check(s: OldSession) -> Result<(), Reason>
     ensures answer { result ≡ record_answer s }
     ensures ranges { InRange s.mesh }
 {
-    let mesh = s.mesh;
-    let mut ends = [0u16; 256];
-    let zeros = links::split(mesh, &mut ends);
-    let tested = mesh::parts_answer(mesh.nodes, mesh.count, zeros, &ends);
-    let Answer::Accepted = tested else {
-        return tested;
-    };
+    mesh::check(Mesh::from(s.mesh))?;
     if is_ill_formed(s) {
-        return Answer::Refused {
+        return Err(Reason {
             number: 13,
             place: 0,
-        };
+        });
     }
-    Answer::Accepted
+    Ok(())
 }

@@ -1,143 +1,107 @@
 // The lines of a listing: the mesh, each link with its direction, and what each cut leads to on wavelength 1 (01, the program meshplan).
 #![tactic(auto)]
 
+ghost use Rattle.std.specs.Prelude.{◌≡◌, ◌==◌, ◌<◌, slice_index, if◌then◌else◌};
+ghost use Rattle.mesh.specs.WellFormed.{link};
+
 use clients::session::recover;
 use flood::Route;
-use metres::Length;
-use recovery::{Report, Session, Status};
-use streams::held::{SIZE, end_line, put_field, put_hyphen, put_number, put_pair, write};
+use mesh::Reason;
+use recovery::Session;
+use status::LinkStatus;
+use streams::held::Held;
+
+// A link with its direction.
+#[derive(Clone, Copy)]
+struct Row {
+    number: u16,
+    low: u8,
+    high: u8,
+    direction: u8,
+}
+
+impl Row {
+    fn of(fresh: &Session, k: u16) -> Self
+        requires { k < 256 }
+        ensures number { result.number ≡ k }
+        ensures low { result.low ≡ (link fresh.now.mesh k).low }
+        ensures high { result.high ≡ (link fresh.now.mesh k).high }
+        ensures direction { result.direction ≡ slice_index fresh.now.plan.directions k }
+    {
+        let l = fresh.mesh.links[k as usize];
+        Row {
+            number: k,
+            low: l.low,
+            high: l.high,
+            direction: fresh.plan.directions[k as usize],
+        }
+    }
+
+    // The ends of the primary arc: x, then y.
+    fn arc(self) -> (u8, u8)
+        ensures { result ≡ if self.direction == 0 then (self.low, self.high) else (self.high, self.low) }
+    {
+        if self.direction == 0 {
+            (self.low, self.high)
+        } else {
+            (self.high, self.low)
+        }
+    }
+}
 
 // The lines of the mesh, of each link, and of each cut.
 pub fn print_session(fresh: Session) {
-    let mut out = [0u8; SIZE];
-    put_session(&mut out, fresh);
-}
-
-fn put_session(out: &mut [u8], fresh: Session) {
-    let mesh = fresh.mesh;
-    let a = put_pair(out, 0, b"mesh", mesh.nodes as u64, mesh.count as u64);
-    let b = put_links(out, a, fresh, mesh.count);
-    let c = put_cuts(out, b, fresh, mesh.count);
-    write(out, c);
-}
-
-// The ends and the direction of a link.
-#[derive(Clone, Copy)]
-struct Row {
-    low: u64,
-    high: u64,
-    direction: u64,
-}
-
-// Those of link k, zeros past the last entry.
-fn planned(s: Session, k: u16) -> Row {
-    if 255 < k {
-        return Row {
-            low: 0,
-            high: 0,
-            direction: 0,
-        };
+    let mut out = Held::new();
+    let links = fresh.mesh.count.min(256);
+    out.pair(b"mesh", fresh.mesh.nodes as u64, fresh.mesh.count as u64);
+    for k in 0..links {
+        put_link(&mut out, Row::of(&fresh, k));
     }
-    let mesh = s.mesh;
-    let plan = s.plan;
-    let l = mesh.links[k as usize];
-    let directions = plan.directions;
-    Row {
-        low: l.low as u64,
-        high: l.high as u64,
-        direction: directions[k as usize] as u64,
+    for k in 0..links {
+        put_cut(&mut out, &fresh, Row::of(&fresh, k));
     }
+    out.write();
 }
 
-fn put_links(out: &mut [u8], at: usize, fresh: Session, count: u16) -> usize {
-    let mut next = at;
-    let mut k: u16 = 0;
-    while k < count {
-        next = put_link(out, next, k, planned(fresh, k));
-        k += 1;
-    }
-    next
-}
-
-fn put_link(out: &mut [u8], at: usize, k: u16, r: Row) -> usize {
-    let a = put_ends(out, at, b"link", k, r.low, r.high);
-    let b = put_number(out, a, r.direction);
-    end_line(out, b)
+fn put_link(out: &mut Held, row: Row) {
+    put_ends(out, b"link", row.number, (row.low, row.high));
+    out.number(row.direction as u64);
+    out.end_line();
 }
 
 // A word, a link and two of its ends.
-fn put_ends(out: &mut [u8], at: usize, word: &[u8], k: u16, first: u64, second: u64) -> usize {
-    let a = put_field(out, at, word, k as u64);
-    let b = put_number(out, a, first);
-    put_number(out, b, second)
+fn put_ends(out: &mut Held, text: &[u8], number: u16, ends: (u8, u8)) {
+    out.field(text, number as u64);
+    out.number(ends.0 as u64);
+    out.number(ends.1 as u64);
 }
 
-fn put_cuts(out: &mut [u8], at: usize, fresh: Session, count: u16) -> usize {
-    let mut next = at;
-    let mut k: u16 = 0;
-    while k < count {
-        next = put_cut(out, next, fresh, k);
-        k += 1;
-    }
-    next
-}
-
-// What a cut of link k leads to on a fresh session: on wavelength 1 its own deliveries, its length and its route.
-fn put_cut(out: &mut [u8], at: usize, fresh: Session, k: u16) -> usize {
-    let recovered = recover(fresh, k);
-    let report = recovered.report;
-    let Report::Made { count: _, rest: _ } = report else {
-        return at;
+// What a cut of the link leads to on a fresh session: on wavelength 1 its own deliveries, its length and its route.
+fn put_cut(out: &mut Held, fresh: &Session, row: Row) {
+    let recovered = recover(*fresh, row.number);
+    let Ok(_) = recovered.report else {
+        return;
     };
-    let a = put_arc(out, at, k, planned(fresh, k));
-    let deliveries = recovered.deliveries;
-    let b = put_number(out, a, deliveries as u64);
-    let status = recovered.status;
-    let c = put_length(out, b, status);
-    let routed = recovered.routed;
-    let route = routed.route;
-    let d = put_route(out, c, route);
-    end_line(out, d)
+    put_ends(out, b"cut", row.number, row.arc());
+    out.number(recovered.deliveries as u64);
+    put_length(out, recovered.status);
+    put_route(out, &recovered.routed.route);
+    out.end_line();
 }
 
 // The route length that a status gives: a number, or a hyphen where it is not known.
-fn put_length(out: &mut [u8], at: usize, status: Status) -> usize {
-    let Status::Link {
-        state: _,
-        under_way: _,
-        route,
-    } = status
-    else {
-        return at;
+fn put_length(out: &mut Held, status: Result<LinkStatus, Reason>) {
+    let Ok(LinkStatus { route, .. }) = status else {
+        return;
     };
     match route {
-        Length::Metres(n) => put_number(out, at, n as u64),
-        Length::NotKnown => put_hyphen(out, at),
+        Some(n) => out.number(n as u64),
+        None => out.hyphen(),
     }
 }
 
-// The link, then the ends of its primary arc: x, then y.
-fn put_arc(out: &mut [u8], at: usize, k: u16, r: Row) -> usize {
-    if r.direction == 0 {
-        return put_ends(out, at, b"cut", k, r.low, r.high);
+fn put_route(out: &mut Held, route: &Route) {
+    for k in route.links.iter().take(route.length as usize) {
+        out.number(*k as u64);
     }
-    put_ends(out, at, b"cut", k, r.high, r.low)
-}
-
-fn put_route(out: &mut [u8], at: usize, route: Route) -> usize {
-    let length = route.length as usize;
-    let mut next = at;
-    let mut i: usize = 0;
-    while i < 256 {
-        if length <= i {
-            return next;
-        }
-        next = put_link_number(out, next, route.links[i]);
-        i += 1;
-    }
-    next
-}
-
-fn put_link_number(out: &mut [u8], at: usize, k: u16) -> usize {
-    put_number(out, at, k as u64)
 }

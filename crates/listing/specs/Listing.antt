@@ -1,6 +1,6 @@
 -- What a listing refuses: what reading refuses, then what planning refuses (01, the program meshplan). Definitions only.
 use Rattle.std.specs.Prelude.{ℕ, List}
-use Rattle.mesh.specs.declared.Answer.{Answer}
+use Rattle.mesh.specs.Answer.{Answer}
 use Rattle.mesh.specs.Mesh.{and_then}
 use Rattle.codec.specs.Book.{decoded}
 use Rattle.planner.specs.Plan.{planned}

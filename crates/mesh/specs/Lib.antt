@@ -1,3 +1,4 @@
+pub mod Answer
 pub mod Mesh
 pub mod WellFormed
 pub mod Refusal

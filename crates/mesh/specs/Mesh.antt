@@ -1,10 +1,9 @@
 -- The mesh and its checks (01, "The mesh" and "Order"). Definitions only.
-use Rattle.std.specs.Prelude.{ℕ, ◌+◌, List, [], ◌∷◌, ◌++◌, Bool, true, false, cond, ◌&&◌, ◌||◌, length, take, drop, replicate, ltb, leb, eqb}
+use Rattle.std.specs.Prelude.{ℕ, ◌+◌, List, [], ◌∷◌, ◌++◌, Bool, true, false, cond, ◌&&◌, ◌||◌, length, take, drop, replicate, ltb, leb, eqb, Err}
 use Rattle.scan.specs.All.{all}
 use Rattle.mesh.specs.declared.Link.{Link}
 use Rattle.mesh.specs.declared.Mesh.{Mesh}
-use Rattle.mesh.specs.declared.Answer.{Answer}
-use Rattle.mesh.specs.declared.Answer.TheVariants.{Accepted, Refused}
+use Rattle.mesh.specs.Answer.{Answer, Accepted, Refused}
 
 -- ---- answers
 
@@ -15,17 +14,17 @@ must t number place next = cond t next (Refused number place)
 -- the first answer if it is a refusal, else the second
 abbrev pub and_then : Answer → Answer → Answer
 and_then Accepted next = next
-and_then (Refused number place) next = Refused number place
+and_then (Err r) next = Refused r.number r.place
 
 -- the answer is a refusal
 abbrev pub refuses : Answer → Bool
 refuses Accepted = false
-refuses (Refused number place) = true
+refuses (Err r) = true
 
 -- what an output holds after a call that writes these entries to its front: those past them stay as they were, and all on a refusal
 abbrev pub output_as : Answer → List ℕ → List ℕ → List ℕ
 output_as Accepted written out = written ++ drop (length written) out
-output_as (Refused number place) written out = out
+output_as (Err r) written out = out
 
 -- ---- records
 

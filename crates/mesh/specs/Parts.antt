@@ -6,8 +6,7 @@ use Rattle.scan.specs.Fill.{filled, table_of}
 use Rattle.ends.specs.Ends.{low_of, high_of}
 use Rattle.mesh.specs.declared.Link.{Link}
 use Rattle.mesh.specs.declared.Mesh.{Mesh}
-use Rattle.mesh.specs.declared.Answer.{Answer}
-use Rattle.mesh.specs.declared.Answer.TheVariants.{Accepted}
+use Rattle.mesh.specs.Answer.{Answer, Accepted}
 use Rattle.mesh.specs.Mesh.{must, and_then, nodes_fit, count_fits, ends_answer}
 pub use Rattle.mesh.specs.Mesh.{rest_zero}
 use Rattle.mesh.specs.WellFormed.{link}

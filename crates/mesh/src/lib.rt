@@ -11,7 +11,7 @@ mod links;
 
 pub use links::{Parts, bits_of, ends_of, split, split_along};
 
-#[derive(Clone, Copy)]
+#[derive(Clone, Copy, Debug, PartialEq, Eq)]
 pub struct Link {
     pub low: u8,
     pub high: u8,
@@ -19,8 +19,9 @@ pub struct Link {
     pub pair: u32,
 }
 
+// form: arrays with a count, and the ducts beside the links, since memory is fixed and 01 and 02 have entries past the last link zero, which `check_refuses` says.
 // The links stand first: where a mesh is stored, small fields before them would have them copied twice.
-#[derive(Clone, Copy)]
+#[derive(Clone, Copy, Debug, PartialEq, Eq)]
 pub struct Mesh {
     pub links: [Link; 256],
     pub nodes: u8,
@@ -29,16 +30,17 @@ pub struct Mesh {
 }
 
 // A direction for each link: 0 from its low to its high end, 1 from its high to its low end. Entries past the last link are zero.
-#[derive(Clone, Copy)]
+#[derive(Clone, Copy, Debug, PartialEq, Eq)]
 pub struct Plan {
     pub directions: [u8; 256],
 }
 
-// Accepted, or a refusal with 01's number and place.
-#[derive(Clone, Copy)]
-pub enum Answer {
-    Accepted,
-    Refused { number: u8, place: usize },
+// Why something is refused: 01's number and place.
+// form: a number, since 01 names each refusal by its number, which the programs print, C reads and the theorem `check_refuses` ranges over.
+#[derive(Clone, Copy, Debug, PartialEq, Eq)]
+pub struct Reason {
+    pub number: u8,
+    pub place: usize,
 }
 
 pub fn zero_link() -> Link
@@ -55,9 +57,8 @@ pub fn zero_link() -> Link
 pub fn zero_mesh() -> Mesh
     ensures { result ≡ zero_mesh }
 {
-    let l = zero_link();
     Mesh {
-        links: [l; 256],
+        links: [zero_link(); 256],
         nodes: 0,
         count: 0,
         ducts: [0; 256],
@@ -68,10 +69,7 @@ pub fn zero_mesh() -> Mesh
 pub fn nodes_fit(n: u8) -> bool
     ensures { result ≡ nodes_fit n }
 {
-    if n < 2 {
-        return false;
-    }
-    n <= 64
+    matches!(n, 2..=64)
 }
 
 // Whether k is a number of links.
@@ -85,68 +83,67 @@ pub fn count_fits(k: u16) -> bool
 pub fn follows(plow: usize, phigh: usize, low: usize, high: usize) -> bool
     ensures { result ≡ Rattle.mesh.specs.Mesh.follows plow phigh low high }
 {
-    if plow < low {
-        return true;
-    }
-    if plow == low {
-        return phigh <= high;
-    }
-    false
+    (plow, phigh) <= (low, high)
 }
 
 // Refusals 7, 6 and 8 of a link with the ends low and high that stands after the link prev. The ends are wide: a book can
 // give the high end 256.
-pub fn ends_answer(nodes: u8, prev: Link, low: usize, high: usize, place: usize) -> Answer
+#[tactic(auto, unfolding(crate::specs::Mesh::ends_answer))]
+pub fn ends_answer(
+    nodes: u8,
+    prev: Link,
+    low: usize,
+    high: usize,
+    place: usize,
+) -> Result<(), Reason>
     ensures { result ≡ ends_answer nodes prev.low prev.high low high place }
 {
     let n = nodes as usize;
     if high <= low {
-        return Answer::Refused { number: 7, place };
+        return Err(Reason { number: 7, place });
     }
     if n <= high {
-        return Answer::Refused { number: 6, place };
+        return Err(Reason { number: 6, place });
     }
     if follows(prev.low as usize, prev.high as usize, low, high) {
-        return Answer::Accepted;
+        return Ok(());
     }
-    Answer::Refused { number: 8, place }
+    Err(Reason { number: 8, place })
 }
 
 // The mesh checks on the parts of a mesh: 3, 4; each link 7, 6, 8; then 13.
-pub fn parts_answer(nodes: u8, count: u16, zeros: bool, ends: &[u16; 256]) -> Answer
+#[tactic(auto, unfolding(crate::specs::Parts::parts_answer))]
+pub fn parts_answer(nodes: u8, count: u16, zeros: bool, ends: &[u16; 256]) -> Result<(), Reason>
     ensures { result ≡ parts_answer nodes count zeros ends.now }
 {
     if !nodes_fit(nodes) {
-        return Answer::Refused {
+        return Err(Reason {
             number: 3,
             place: 0,
-        };
+        });
     }
     if !count_fits(count) {
-        return Answer::Refused {
+        return Err(Reason {
             number: 4,
             place: 0,
-        };
+        });
     }
-    let a = in_turn::ends_in_turn(nodes, count as usize, ends);
-    let Answer::Accepted = a else {
-        return a;
-    };
+    in_turn::ends_in_turn(nodes, count as usize, ends)?;
     if zeros {
-        return Answer::Accepted;
+        return Ok(());
     }
-    Answer::Refused {
+    Err(Reason {
         number: 13,
         place: 0,
-    }
+    })
 }
 
 // The mesh checks.
-pub fn check(m: Mesh) -> Answer
+pub fn check(m: Mesh) -> Result<(), Reason>
     ensures answer { result ≡ mesh_answer m }
     ensures ranges { InRange m }
 {
     let mut ends = [0u16; 256];
-    let zeros = split(m, &mut ends);
+    let zeros = split(&m, &mut ends);
     parts_answer(m.nodes, m.count, zeros, &ends)
 }

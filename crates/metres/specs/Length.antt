@@ -3,8 +3,7 @@ use Rattle.std.specs.Prelude.{ℕ, ◌<◌, ◌≡◌, ◌↔◌, Bool, cond, �
 use mathlib.Core.List.{List, Memᴰ}
 use Rattle.scan.specs.Lowest.{any}
 use Rattle.scan.specs.Total.{total, sum_of}
-use Rattle.metres.specs.declared.Length.{Length}
-use Rattle.metres.specs.declared.Length.TheVariants.{Metres, NotKnown}
+use Rattle.metres.specs.Known.{Length, Metres, NotKnown}
 
 -- of the links below n those that are on: the sum of their lengths in metres, or not known where one of these is not measured, which is length 0
 unfoldable pub length_of : (ℕ → ℕ) → (ℕ → Bool) → ℕ → Length

@@ -4,36 +4,29 @@
 ghost use Rattle.std.specs.Prelude.{◌≡◌, min};
 ghost use Rattle.nets.specs.Nets.{rows_of, Finds};
 
-use ends::lower;
 use mesh::Mesh;
+use rows::Rows;
 
-// The links, open both ways.
-pub fn all_ways(m: Mesh) -> [u64; 64]
-    ensures { result ≡ rows_of m (min m.count 256) }
+// The links, but for one that may be left out, open both ways.
+pub fn ways(m: &Mesh, gap: Option<usize>) -> Rows
+    ensures { result.0 ≡ rows_of m.now gap (min m.now.count 256) }
 {
-    let links = lower(m.count as usize, 256);
-    let mut table = [0u64; 64];
-    let mut k: usize = 0;
-    while k < links {
-        let l = m.links[k];
-        rows::put_arc(&mut table, l.low, l.high);
-        rows::put_arc(&mut table, l.high, l.low);
-        k += 1;
+    let links = (m.count as usize).min(256);
+    let mut table = Rows([0u64; 64]);
+    for k in 0..links {
+        if gap != Some(k) {
+            let l = m.links[k];
+            table.put_arc(l.low, l.high);
+            table.put_arc(l.high, l.low);
+        }
     }
     table
 }
 
-// The lowest node that node 0 does not reach, or the number of nodes. It takes the number alone, since a mesh is copied for each function that takes it.
-pub fn lowest_unreached(nodes: u8, table: &[u64; 64]) -> u8
-    ensures { Finds nodes table.now result }
+// The lowest of so many nodes that node 0 does not reach.
+pub fn lowest_unreached(nodes: u8, table: &Rows) -> Option<u8>
+    ensures { Finds nodes table.now.0 result }
 {
-    let reached = rows::spread(table, 0);
-    let mut v: u8 = 0;
-    while v < nodes {
-        if !rows::has_node(reached, v) {
-            return v;
-        }
-        v += 1;
-    }
-    v
+    let reached = table.spread(0);
+    (0..nodes).find(|v| !rows::has_node(reached, *v))
 }

@@ -1,13 +1,13 @@
 -- What one cut leads to on wavelength 1, on a mesh and its plan. Definitions only.
-use Rattle.std.specs.Prelude.{ℕ}
-use Rattle.metres.specs.declared.Length.{Length}
-use Rattle.metres.specs.declared.Length.TheVariants as lengths
+use Rattle.std.specs.Prelude.{ℕ, Err, Ok}
+use Rattle.metres.specs.Known.{Length}
+use Rattle.metres.specs.Known as lengths
 use Rattle.mesh.specs.declared.Mesh.{Mesh}
 use Rattle.planner.specs.Plan.{planned}
 use Rattle.flood.specs.Topology.{had_of}
 use Rattle.recovery.specs.declared.Session.{Session}
-use Rattle.recovery.specs.declared.Status.{Status}
-use Rattle.recovery.specs.declared.Status.TheVariants as status
+use Rattle.recovery.specs.Answers.{Status}
+use Rattle.recovery.specs.Answers as outcomes
 use Rattle.recovery.specs.Calls.{started, after_cut, after_run, status_of, routed}
 use Rattle.one_cut.specs.declared.Recovered.{Recovered}
 
@@ -22,8 +22,8 @@ metres_of lengths.NotKnown = 4294967295
 
 -- the route length that a status gives, 0 where the status refuses
 abbrev pub status_metres : Status → ℕ
-status_metres (status.Link state under_way route) = metres_of route
-status_metres (status.Refused number place) = 0
+status_metres (Ok l) = metres_of l.route
+status_metres (Err r) = 0
 
 -- what a cut of link k leads to on wavelength 1: its route, how many deliveries were made on it, by the states of its links, and the metres of its route
 abbrev pub recovered : Mesh → ℕ → Recovered

@@ -2,24 +2,20 @@
 #![tactic(auto)]
 
 ghost use Rattle.std.specs.Prelude.{◌≡◌};
-ghost use Rattle.one_cut.specs.OneCut.{metres_of, status_metres, ran, recovered};
+ghost use Rattle.recovery.specs.Calls.{after_cut, after_run};
+ghost use Rattle.one_cut.specs.OneCut.{metres_of, status_metres, recovered};
 
 use flood::Route;
-use mesh::Mesh;
-use metres::Length;
-use recovery::{Session, Status};
+use mesh::{Mesh, Reason};
+use recovery::{Run, Session};
 use states::count;
-
-// The allowance of an unhindered run.
-const UNHINDERED: u32 = 4294967295;
+use status::LinkStatus;
 
 // The number of wavelength 1.
-const FIRST: u8 = 1;
-
-// What stands for a length that is not known.
-const NOT_KNOWN: u32 = 4294967295;
+pub const FIRST: u8 = 1;
 
 // Of wavelength 1 the route, its deliveries and its metres.
+// form: 4294967295 where the metres are not known, since covetureen_route stores that number for C.
 #[derive(Clone, Copy)]
 pub struct Recovered {
     pub route: Route,
@@ -28,60 +24,39 @@ pub struct Recovered {
 }
 
 // A length as a number.
-fn metres_of(length: Length) -> u32
+fn metres_of(length: Option<u32>) -> u32
     ensures { result ≡ metres_of length }
 {
-    match length {
-        Length::Metres(n) => n,
-        Length::NotKnown => NOT_KNOWN,
-    }
+    length.unwrap_or(u32::MAX)
 }
 
 // The route length that a status gives.
-fn status_metres(s: Status) -> u32
+fn status_metres(s: Result<LinkStatus, Reason>) -> u32
     ensures { result ≡ status_metres s }
 {
     match s {
-        Status::Link {
-            state: _,
-            under_way: _,
-            route,
-        } => metres_of(route),
-        Status::Refused {
-            number: _,
-            place: _,
-        } => 0,
+        Ok(l) => metres_of(l.route),
+        Err(_) => 0,
     }
 }
 
-// A session on a mesh and its plan, after the cut of a link and an unhindered run.
-fn run(m: Mesh, link: u16) -> Session
-    ensures { result ≡ ran m link }
+// The cut of a link on a session, and an unhindered run.
+pub fn run(s: Session, link: u16) -> Run
+    ensures { result ≡ after_run (after_cut s link).session 4294967295 }
 {
-    let planned = planner::plan(m);
-    let plan = planned.plan;
-    let started = Session::start(m, plan);
-    let fresh = started.session;
-    let changed = fresh.cut(link);
-    let cut = changed.session;
-    let run = cut.run(UNHINDERED);
-    run.session
+    let cut = s.cut(link).session;
+    cut.run(u32::MAX)
 }
 
-// What it leads to on wavelength 1.
+// What they lead to on wavelength 1, on a session on a mesh and its plan.
 pub fn recover(m: Mesh, link: u16) -> Recovered
     ensures { result ≡ recovered m link }
 {
-    let s = run(m, link);
-    let mesh = s.mesh;
-    let first = s.first;
-    let deliveries = count::deliveries(&first.states, mesh.count as usize);
-    let metres = status_metres(s.status(link, FIRST));
-    let routed = s.route(FIRST);
-    let route = routed.route;
+    let fresh = Session::start(m, planner::plan(m).plan).session;
+    let s = run(fresh, link).session;
     Recovered {
-        route,
-        deliveries,
-        metres,
+        route: s.route(FIRST).route,
+        deliveries: count::deliveries(&s.first.states, usize::from(s.mesh.count)),
+        metres: status_metres(s.status(link, FIRST)),
     }
 }

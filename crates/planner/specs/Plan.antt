@@ -1,12 +1,12 @@
 -- What planning a mesh gives (01, "The plan" and "Order"). Definitions only.
-use Rattle.std.specs.Prelude.{ℕ, ◌-◌, not, List, [], ◌++◌, length, replicate}
+use Rattle.std.specs.Prelude.{ℕ, ◌-◌, not, List, [], ◌++◌, length, replicate, Err, Ok, Result}
 use Rattle.std.proofs.Math.Option.{Option, none, some}
 use Rattle.scan.specs.Lowest.{lowest, any}
 use Rattle.graph.specs.Plan.{unreached, parts, plan}
 use Rattle.mesh.specs.declared.Mesh.{Mesh}
 use Rattle.mesh.specs.declared.Plan.{Plan}
-use Rattle.mesh.specs.declared.Answer.{Answer}
-use Rattle.mesh.specs.declared.Answer.TheVariants.{Accepted, Refused}
+use Rattle.mesh.specs.declared.Reason.{Reason}
+use Rattle.mesh.specs.Answer.{Answer, Accepted, Refused}
 use Rattle.mesh.specs.Mesh.{must, and_then, mesh_answer}
 use Rattle.nets.specs.Nets.{net_of}
 use Rattle.planner.specs.declared.Planned.{Planned}
@@ -33,7 +33,12 @@ or_none none = []
 
 abbrev pub planned_as : Answer → Plan → Planned
 planned_as Accepted p = record { plan = p; answer = Accepted }
-planned_as (Refused number place) p = record { plan = zero_plan; answer = Refused number place }
+planned_as (Err r) p = record { plan = zero_plan; answer = Refused r.number r.place }
+
+-- the same of a plan or the reason why there is none
+abbrev pub planned_by : Result Plan Reason → Planned
+planned_by (Ok p) = planned_as Accepted p
+planned_by (Err r) = planned_as (Refused r.number r.place) zero_plan
 
 -- the answer and the plan, of all admissible assignments the first; all zeros on a refusal
 unfoldable pub planned : Mesh → Planned

@@ -1,6 +1,6 @@
 -- What the pass of the planner's code over the links is given and gives. Definitions only.
-use Rattle.std.specs.Prelude.{ℕ, ◌-◌, ◌≤◌, ◌≡◌, List, ◌++◌, replicate}
-use Rattle.scan.specs.Lowest.{lowest}
+use Rattle.std.specs.Prelude.{ℕ, ◌-◌, ◌≡◌, cond, Result, Ok, Err, List, ◌++◌, replicate}
+use Rattle.scan.specs.Lowest.{lowest, any}
 use Rattle.graph.specs.Net.{Strong, both_ways}
 use Rattle.graph.specs.Plan.{parts}
 use Rattle.graph.specs.Greedy.{greedy}
@@ -17,7 +17,9 @@ pub record Given (m : Mesh) (count : ℕ) (ends ways : List ℕ) : Type 0 where
   pub table : Table (net_of m) both_ways ways
   pub joined : Strong (net_of m) both_ways
 
--- the lowest link whose removal parts the mesh, or the number of links, and then all directions
-pub record Directs (m : Mesh) (directions : List ℕ) (bridge : ℕ) : Type 0 where
-  pub bridge_is : bridge ≡ lowest (parts (net_of m)) m.count
-  pub directions_are : m.count ≤ bridge → directions ≡ greedy (net_of m) m.count ++ replicate (256 - m.count) 0
+-- all directions, or the lowest link whose removal parts the mesh
+unfoldable pub directed : Mesh → Result (List ℕ) ℕ
+directed m =
+    cond (any (parts (net_of m)) m.count)
+    (Err (lowest (parts (net_of m)) m.count))
+    (Ok (greedy (net_of m) m.count ++ replicate (256 - m.count) 0))

@@ -4,56 +4,39 @@ ghost use Rattle.std.specs.Prelude.{◌≡◌, ◌+◌, ◌<◌, ◌≤◌};
 ghost use Rattle.scan.specs.Test.{Says};
 ghost use Rattle.scan.specs.Entry.{at};
 ghost use Rattle.mesh.specs.declared.Mesh.{Mesh};
-ghost use Rattle.planner.specs.Search.{Given, Directs};
+ghost use Rattle.planner.specs.Search.{Given, directed};
 
 use ends::{high_of, low_of};
-
-// A direction for each link before the first that parts the mesh, and the number of that link; the number of links where none does.
-#[derive(Clone, Copy)]
-pub(crate) struct Directions {
-    pub directions: [u8; 256],
-    pub bridge: u16,
-}
+use rows::{Arcs, Parallel, Rows};
 
 // Whether the link after link i has its ends: links with the same ends stand next to each other, and entries past the last link are 0.
 fn is_followed(ends: &[u16; 256], i: usize) -> bool
     ensures { Says result ((i < 255) × (at ends.now i ≡ at ends.now (i + 1))) }
 {
-    if 255 <= i {
-        return false;
-    }
-    ends[i] == ends[i + 1]
+    i < 255 && ends[i] == ends[i + 1]
 }
 
-// Each link in turn gets its direction, the links before it having theirs.
-pub(crate) fn all_directions(count: u16, ends: &[u16; 256], ways: [u64; 64]) -> Directions
+// A direction for each link, each in turn, the links before it having theirs; or the number of the first link that parts the mesh.
+pub(crate) fn all_directions(count: u16, ends: &[u16; 256], ways: Rows) -> Result<[u8; 256], u16>
     requires { count ≤ 256 }
-    ensures { (m : Mesh) → Given m count ends.now ways → Directs m result.directions result.bridge }
+    ensures { (m : Mesh) → Given m count ends.now ways.0 → result ≡ directed m }
 {
-    let mut leaving = ways;
-    let mut entering = ways;
+    let mut arcs = Arcs {
+        leaving: ways,
+        entering: ways,
+    };
     let mut directions = [0u8; 256];
     let mut before = false;
-    let mut k: u16 = 0;
-    while k < count {
+    for k in 0..count {
         let i = k as usize;
         let after = is_followed(ends, i);
-        let e = ends[i];
-        let low = low_of(e);
-        let high = high_of(e);
-        let d = rows::direct(&mut leaving, &mut entering, low, high, before, after);
-        if d == rows::STUCK {
-            return Directions {
-                directions,
-                bridge: k,
-            };
-        }
+        let low = low_of(ends[i]);
+        let high = high_of(ends[i]);
+        let Some(d) = arcs.direct(low, high, Parallel { before, after }) else {
+            return Err(k);
+        };
         directions[i] = d;
         before = after;
-        k += 1;
     }
-    Directions {
-        directions,
-        bridge: k,
-    }
+    Ok(directions)
 }

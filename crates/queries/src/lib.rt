@@ -1,9 +1,8 @@
-// What is asked of a session, on its pieces: the mesh and the cut by value, the arrays of the plan and of the floods lent, those of wavelength 1
-// and then those of wavelength 2. Each takes the mesh apart once and tests the record; none changes a flood.
+// What is asked of a session, on its pieces: the mesh and the cut by value, the directions of the plan and the floods lent, that on wavelength 1 and then
+// that on wavelength 2. Each takes the mesh apart once and tests the record; none changes a flood.
 #![tactic(auto)]
 
 ghost use Rattle.std.specs.Prelude.{◌≡◌, cond, []};
-ghost use Rattle.flood.specs.Lent.{flood};
 ghost use Rattle.flood.specs.Digraph as failures;
 ghost use Rattle.flood.specs.Topology.{route_from, as_route};
 ghost use Rattle.wavelengths.specs.Wavelength.{pair};
@@ -11,95 +10,68 @@ ghost use Rattle.refusals.specs.Refusals.{resting};
 ghost use Rattle.topology.specs.Backup.{backup_on};
 ghost use Rattle.pieces.specs.Given.{Given};
 ghost use Rattle.pieces.specs.Pieces as given;
-ghost use Rattle.queries.specs.Queries.{mend_of, OfRoute};
+ghost use Rattle.queries.specs.Queries.{mend_of, route_of};
 
-use flood::Route;
-use formed::{Cut, cut_link};
-use mesh::{Answer, Mesh};
-use wavelengths::{Wavelength, wavelength_of};
-
-// The route query: the links of a wavelength's route from its source on, none beside a refusal.
-#[derive(Clone, Copy)]
-pub struct Found {
-    pub route: Route,
-    pub answer: Answer,
-}
+use flood::{Flood, Route};
+use formed::cut_link;
+use mesh::{Mesh, Reason};
+use topology::CutMesh;
+use wavelengths::{Wavelength, of_wavelength, wavelength_of};
 
 // The answer to the record.
-pub fn tested<'a>(
+pub fn tested(
     mesh: Mesh,
     directions: &[u8; 256],
-    cut: Cut,
-    states1: &'a [u8; 256],
-    reached1: &'a [bool; 64],
-    states2: &'a [u8; 256],
-    reached2: &'a [bool; 64],
-) -> Answer
-    ensures { result ≡ given.tested mesh directions.now cut
-        (pair (flood states1.now reached1.now) (flood states2.now reached2.now)) }
+    cut: Option<u16>,
+    first: &Flood,
+    second: &Flood,
+) -> Result<(), Reason>
+    ensures { result ≡ given.tested mesh directions.now cut (pair first.now second.now) }
 {
     let mut ends = [0u16; 256];
-    let zeros = mesh::split(mesh, &mut ends);
-    formed::record_answer(
-        mesh.nodes, mesh.count, zeros, &ends, directions, cut, states1, reached1, states2, reached2,
-    )
+    pieces::take_apart(mesh, directions, cut, first, second, &mut ends)
 }
 
 // Whether the cut link can be mended.
-pub fn mend_answer<'a>(
+pub fn mend_answer(
     mesh: Mesh,
     directions: &[u8; 256],
-    cut: Cut,
-    states1: &'a [u8; 256],
-    reached1: &'a [bool; 64],
-    states2: &'a [u8; 256],
-    reached2: &'a [bool; 64],
+    cut: Option<u16>,
+    first: &Flood,
+    second: &Flood,
     link: u16,
-) -> Answer
-    ensures { result ≡ mend_of mesh directions.now cut
-        (pair (flood states1.now reached1.now) (flood states2.now reached2.now)) link }
+) -> Result<(), Reason>
+    ensures { result ≡ mend_of mesh directions.now cut (pair first.now second.now) link }
 {
     let mut ends = [0u16; 256];
-    let zeros = mesh::split(mesh, &mut ends);
-    let tested = formed::record_answer(
-        mesh.nodes, mesh.count, zeros, &ends, directions, cut, states1, reached1, states2, reached2,
-    );
-    let first = refusals::is_resting(mesh.count, states1);
-    let second = refusals::is_resting(mesh.count, states2);
-    refusals::mend_answer(tested, mesh.count, cut, first & second, link)
+    let tested = pieces::take_apart(mesh, directions, cut, first, second, &mut ends);
+    let rest = refusals::is_resting(mesh.count, &first.states)
+        & refusals::is_resting(mesh.count, &second.states);
+    refusals::mend_answer(tested, mesh.count, cut, rest, link)
 }
 
 // The links of a wavelength's route from its source on, where a cut stands and nothing is under way on that wavelength.
-pub fn route<'a>(
+pub fn route(
     mesh: Mesh,
     directions: &[u8; 256],
-    cut: Cut,
-    states1: &'a [u8; 256],
-    reached1: &'a [bool; 64],
-    states2: &'a [u8; 256],
-    reached2: &'a [bool; 64],
+    cut: Option<u16>,
+    first: &Flood,
+    second: &Flood,
     wavelength: u8,
-) -> Found
-    ensures { OfRoute mesh directions.now cut
-        (pair (flood states1.now reached1.now) (flood states2.now reached2.now)) wavelength result }
+) -> Result<Route, Reason>
+    ensures { result ≡ route_of mesh directions.now cut (pair first.now second.now) wavelength }
 {
     let mut ends = [0u16; 256];
-    let zeros = mesh::split(mesh, &mut ends);
-    let tested = formed::record_answer(
-        mesh.nodes, mesh.count, zeros, &ends, directions, cut, states1, reached1, states2, reached2,
-    );
-    let answer = refusals::route_answer(tested, cut, wavelength);
-    let Answer::Accepted = answer else {
-        let route = no_route();
-        return Found { route, answer };
+    let tested = pieces::take_apart(mesh, directions, cut, first, second, &mut ends);
+    refusals::route_answer(tested, cut, wavelength)?;
+    let cutting = CutMesh {
+        count: mesh.count,
+        directions,
+        ends: &ends,
+        link: cut_link(cut),
     };
     let w = wavelength_of(wavelength);
-    let k = cut_link(cut);
-    let route = match w {
-        Wavelength::First => route_on(w, mesh.count, directions, &ends, k, states1),
-        Wavelength::Second => route_on(w, mesh.count, directions, &ends, k, states2),
-    };
-    Found { route, answer }
+    Ok(route_on(&cutting, w, of_wavelength(w, first, second)))
 }
 
 fn no_route() -> Route
@@ -111,21 +83,15 @@ fn no_route() -> Route
     }
 }
 
-// The links of the route on a wavelength with these states, from its source on, where k is the cut link; none where a link is under way.
-fn route_on(
-    w: Wavelength,
-    count: u16,
-    directions: &[u8; 256],
-    ends: &[u16; 256],
-    k: u16,
-    states: &[u8; 256],
-) -> Route
-    ensures { (m : Mesh) → Given m count ends.now k
-        → let g = backup_on w m (record { directions = directions.now }) in
-        result ≡ as_route (cond (resting count states.now) (route_from g m.count (failures.cut g k).source states.now) []) }
+// The links of the route on a wavelength with this flood, from its source on; none where a link is under way.
+fn route_on(mesh: &CutMesh, w: Wavelength, flood: &Flood) -> Route
+    ensures { (m : Mesh) → Given m mesh.now.count mesh.now.ends.now mesh.now.link
+        → let g = backup_on w m (record { directions = mesh.now.directions.now }) in
+        result ≡ as_route (cond (resting mesh.now.count flood.now.states)
+        (route_from g m.count (failures.cut g mesh.now.link).source flood.now.states) []) }
 {
-    if !refusals::is_resting(count, states) {
+    if !refusals::is_resting(mesh.count, &flood.states) {
         return no_route();
     }
-    backup::route(w, count, directions, ends, k, states)
+    backup::route(mesh, w, flood)
 }

@@ -10,9 +10,7 @@ pub(crate) fn number_at(s: &[u8], at: usize, w: usize) -> u32
     ensures within { result < 256 ^ w }
 {
     let mut x: u32 = 0;
-    let mut i = w;
-    while 0 < i {
-        i -= 1;
+    for i in (0..w).rev() {
         x = s[at + i] as u32 + 256 * x;
     }
     x

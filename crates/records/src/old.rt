@@ -1,84 +1,58 @@
 // Sessions from before wavelength 2.
+use crate::entries::next_link;
 use crate::session::{read_cut, read_flood, read_plan};
-use formed::Cut;
+use flood::Flood;
 use legacy::{OldCut, OldFlood, OldLink, OldMesh, OldPlan, OldSession};
-use streams::input::{next_byte, next_four, next_two};
+use mesh::{Link, Plan};
+use streams::input::{next_byte, next_two};
 
 pub fn read_old_session() -> OldSession {
     let mesh = read_old_mesh();
-    let plan = read_old_plan();
-    let cut = read_old_cut();
-    let flood = read_old_flood();
+    let Plan { directions } = read_plan();
+    let cut = old_cut(read_cut());
+    let Flood { states, reached } = read_flood();
     OldSession {
         mesh,
-        plan,
+        plan: OldPlan { directions },
         cut,
-        flood,
+        flood: OldFlood { states, reached },
     }
 }
 
 fn read_old_mesh() -> OldMesh {
-    let links = [OldLink {
+    let none = OldLink {
         low: 0,
         high: 0,
         length: 0,
         pair: 0,
-    }; 256];
+    };
     let nodes = next_byte();
     let count = next_two();
-    let m = OldMesh {
+    let mut links = [none; 256];
+    for _ in 0..next_two() {
+        let at = next_byte();
+        links[usize::from(at)] = old_link(next_link());
+    }
+    OldMesh {
         links,
         nodes,
         count,
-    };
-    read_old_entries(m, next_two())
-}
-
-// The mesh with the entries that come next, each with its index.
-fn read_old_entries(m: OldMesh, entries: u16) -> OldMesh {
-    let mut filled = m;
-    let mut i: u16 = 0;
-    while i < entries {
-        filled = read_old_entry(filled);
-        i += 1;
     }
-    filled
 }
 
-fn read_old_entry(m: OldMesh) -> OldMesh {
-    let at = next_byte();
-    let low = next_byte();
-    let high = next_byte();
-    let length = next_two();
-    let pair = next_four();
-    let l = OldLink {
-        low,
-        high,
-        length,
-        pair,
-    };
-    let mut filled = m;
-    filled.links[at as usize] = l;
-    filled
+// A link without its duct is as it was.
+fn old_link(l: Link) -> OldLink {
+    OldLink {
+        low: l.low,
+        high: l.high,
+        length: l.length,
+        pair: l.pair,
+    }
 }
 
-fn read_old_plan() -> OldPlan {
-    let plan = read_plan();
-    let directions = plan.directions;
-    OldPlan { directions }
-}
-
-fn read_old_cut() -> OldCut {
-    let cut = read_cut();
+fn old_cut(cut: Option<u16>) -> OldCut {
     match cut {
-        Cut::Link(k) => OldCut::Link(k),
-        Cut::Nothing => OldCut::Nothing,
+        Some(k) => OldCut::Link(k),
+        None => OldCut::Nothing,
     }
-}
-
-fn read_old_flood() -> OldFlood {
-    let flood = read_flood();
-    let states = flood.states;
-    let reached = flood.reached;
-    OldFlood { states, reached }
 }

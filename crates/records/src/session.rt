@@ -1,14 +1,16 @@
 // Plans and sessions.
 use crate::entries::read_entries;
 use flood::Flood;
-use formed::Cut;
 use mesh::{Mesh, Plan};
 use recovery::Session;
 use streams::input::{next_byte, next_two};
 
+// The directions that come next, zeros past them.
 pub fn read_plan() -> Plan {
     let mut directions = [0u8; 256];
-    read_directions(&mut directions, next_two());
+    for i in 0..next_two() {
+        store(&mut directions, usize::from(i), next_byte());
+    }
     Plan { directions }
 }
 
@@ -30,63 +32,45 @@ pub fn read_session(m: Mesh) -> Session {
 
 // The states and the reached nodes of one wavelength.
 pub(crate) fn read_flood() -> Flood {
+    Flood {
+        states: read_states(),
+        reached: read_reached(),
+    }
+}
+
+// The states that come next, each with its index; the others are zero.
+fn read_states() -> [u8; 256] {
     let mut states = [0u8; 256];
-    read_states(&mut states, next_two());
+    for _ in 0..next_two() {
+        let at = next_byte();
+        states[usize::from(at)] = next_byte();
+    }
+    states
+}
+
+// Which nodes are reached: those that come next.
+fn read_reached() -> [bool; 64] {
     let mut reached = [false; 64];
-    read_reached(&mut reached, next_byte());
-    Flood { states, reached }
+    for _ in 0..next_byte() {
+        store(&mut reached, usize::from(next_byte()), true);
+    }
+    reached
 }
 
 // Stores v at index i where there is one.
-fn store(entries: &mut [u8], i: usize, v: u8) {
-    if i < entries.len() {
-        entries[i] = v;
+fn store<T: Copy>(entries: &mut [T], i: usize, v: T) {
+    if let Some(entry) = entries.get_mut(i) {
+        *entry = v;
     }
 }
 
-fn read_directions(directions: &mut [u8], count: u16) {
-    let mut i: u16 = 0;
-    while i < count {
-        store(directions, i as usize, next_byte());
-        i += 1;
-    }
-}
-
-pub(crate) fn read_cut() -> Cut {
+pub(crate) fn read_cut() -> Option<u16> {
     let k = next_two();
-    if k == 65535 {
-        Cut::Nothing
-    } else {
-        Cut::Link(k)
-    }
-}
-
-fn read_states(states: &mut [u8], entries: u16) {
-    let mut i: u16 = 0;
-    while i < entries {
-        let at = next_byte();
-        store(states, at as usize, next_byte());
-        i += 1;
-    }
-}
-
-fn mark(reached: &mut [bool], v: u8) {
-    let i = v as usize;
-    if i < reached.len() {
-        reached[i] = true;
-    }
-}
-
-fn read_reached(reached: &mut [bool], nodes: u8) {
-    let mut i: u8 = 0;
-    while i < nodes {
-        mark(reached, next_byte());
-        i += 1;
-    }
+    if k == u16::MAX { None } else { Some(k) }
 }
 
 fn read_mesh(m: Mesh) -> Mesh {
-    let mut changed = read_entries(m, next_byte() as u16);
+    let mut changed = read_entries(m, u16::from(next_byte()));
     changed.nodes = next_byte();
     changed.count = next_two();
     changed

@@ -1,13 +1,12 @@
 -- What each call gives, for every session and every argument: the refusals in order, then begin, step and run of the floods on the two wavelengths. A
 -- refused call hands the session back unaltered (01, "The recovery machine" and "Order"; 02, request 2). Definitions only.
-use Rattle.std.specs.Prelude.{ℕ, Bool, false, cond, ◌&&◌, List, [], eqb, replicate}
+use Rattle.std.specs.Prelude.{ℕ, Bool, false, cond, ◌&&◌, List, [], eqb, replicate, Err}
 use Rattle.scan.specs.Entry.{at}
-use Rattle.metres.specs.declared.Length.{Length}
+use Rattle.metres.specs.Known.{Length}
 use Rattle.metres.specs.Length.{route_length}
 use Rattle.mesh.specs.declared.Mesh.{Mesh}
 use Rattle.mesh.specs.declared.Plan.{Plan}
-use Rattle.mesh.specs.declared.Answer.{Answer}
-use Rattle.mesh.specs.declared.Answer.TheVariants.{Accepted, Refused}
+use Rattle.mesh.specs.Answer.{Answer, Accepted, Refused}
 use Rattle.mesh.specs.Mesh.{zero_mesh}
 use Rattle.mesh.specs.WellFormed.{lengths}
 use Rattle.flood.specs.Digraph.{Digraph, Failure}
@@ -19,8 +18,8 @@ use Rattle.wavelengths.specs.declared.Floods.{Floods}
 use Rattle.wavelengths.specs.declared.Wavelength.{Wavelength}
 use Rattle.wavelengths.specs.Wavelength.{wavelength_of, on}
 use Rattle.wavelengths.specs.Merge.{Ran, turn, fresh_on_each, at_rest, begin, step, run}
-use Rattle.formed.specs.declared.Cut.{Cut}
-use Rattle.formed.specs.declared.Cut.TheVariants as cut
+use Rattle.formed.specs.Cut.{Cut}
+use Rattle.formed.specs.Cut as cut
 use Rattle.formed.specs.Formed.{start_answer}
 use Rattle.topology.specs.Backup.{backup_on}
 use Rattle.refusals.specs.Refusals as refusals
@@ -31,10 +30,9 @@ use Rattle.recovery.specs.declared.Change.{Change}
 use Rattle.recovery.specs.declared.Delivered.{Delivered}
 use Rattle.recovery.specs.declared.Delivered.TheVariants as delivered
 use Rattle.recovery.specs.declared.Delivery.{Delivery}
-use Rattle.recovery.specs.declared.Report.TheVariants as report
+use Rattle.recovery.specs.Answers as outcomes
 use Rattle.recovery.specs.declared.Run.{Run}
-use Rattle.recovery.specs.declared.Status.{Status}
-use Rattle.recovery.specs.declared.Status.TheVariants as status
+use Rattle.recovery.specs.Answers.{Status}
 use Rattle.recovery.specs.declared.Routed.{Routed}
 use Rattle.recovery.specs.Formed.{record_answer}
 
@@ -101,7 +99,7 @@ route_answer s n = refusals.route_answer (record_answer s) s.cut n
 -- start, cut and mend: the session becomes `after` where the answer accepts, and is `before` where it refuses
 abbrev pub change : Answer → Session → Session → Change
 change Accepted before after = record { session = after; answer = Accepted }
-change (Refused number place) before after = record { session = before; answer = Refused number place }
+change (Err r) before after = record { session = before; answer = Refused r.number r.place }
 
 unfoldable pub started : Mesh → Plan → Change
 started m p = change (start_answer m p) zero_session (fresh_on m p)
@@ -118,7 +116,7 @@ acted a b v = cond (eqb v 2) (delivered.Taken b) (cond (eqb v 3) (delivered.Turn
 
 abbrev pub delivery_as : Answer → Session → ℕ → Wavelength → Floods → Delivery
 delivery_as Accepted s k w f = record { session = with_floods s f; answer = acted ((digraph s w).tail k) ((digraph s w).head k) (at (on w f).states k) }
-delivery_as (Refused number place) s k w f = record { session = s; answer = delivered.Refused number place }
+delivery_as (Err r) s k w f = record { session = s; answer = delivered.Refused r.number r.place }
 
 unfoldable pub after_delivery : Session → ℕ → ℕ → Delivery
 after_delivery s k n =
@@ -127,8 +125,8 @@ after_delivery s k n =
 
 -- a run with an allowance reports how many deliveries it made on both wavelengths, and whether no link is under way on either after them
 abbrev pub run_as : Answer → Session → Ran → Run
-run_as Accepted s r = record { session = with_floods s r.floods; report = report.Made r.made (at_rest (digraph s) r.floods) }
-run_as (Refused number place) s r = record { session = s; report = report.Refused number place }
+run_as Accepted s r = record { session = with_floods s r.floods; report = outcomes.Made r.made (at_rest (digraph s) r.floods) }
+run_as (Err why) s r = record { session = s; report = Refused why.number why.place }
 
 unfoldable pub after_run : Session → ℕ → Run
 after_run s allowance = run_as (run_answer s) s (run (digraph s) (failure s) allowance (floods s))
@@ -139,8 +137,8 @@ route_length_of s w = route_length (standing s.cut && resting s) (lengths s.mesh
 
 -- a status of link k on wavelength w: the link's state, how many links are under way on w, and w's route length
 abbrev pub status_as : Answer → Session → ℕ → Wavelength → Status
-status_as Accepted s k w = status.Link (at (on w (floods s)).states k) (activity (digraph s w) (on w (floods s))) (route_length_of s w)
-status_as (Refused number place) s k w = status.Refused number place
+status_as Accepted s k w = outcomes.Link (at (on w (floods s)).states k) (activity (digraph s w) (on w (floods s))) (route_length_of s w)
+status_as (Err r) s k w = Refused r.number r.place
 
 unfoldable pub status_of : Session → ℕ → ℕ → Status
 status_of s k n = status_as (status_answer s k n) s k (wavelength_of n)
@@ -151,7 +149,7 @@ route_of s w = cond (resting_on s w) (route_from (digraph s w) s.mesh.count (fai
 
 abbrev pub routed_as : Answer → List ℕ → Routed
 routed_as Accepted p = record { route = as_route p; answer = Accepted }
-routed_as (Refused number place) p = record { route = as_route []; answer = Refused number place }
+routed_as (Err r) p = record { route = as_route []; answer = Refused r.number r.place }
 
 -- the route query: 14, 23, then the route
 unfoldable pub routed : Session → ℕ → Routed

@@ -1,5 +1,5 @@
 -- The record of a session (01, "Refusals from the input"): its pieces are well formed, and are tested. Definitions only.
-use Rattle.mesh.specs.declared.Answer.{Answer}
+use Rattle.mesh.specs.Answer.{Answer}
 use Rattle.formed.specs.Formed as test
 use Rattle.formed.specs.WellFormed as words
 use Rattle.recovery.specs.declared.Session.{Session}

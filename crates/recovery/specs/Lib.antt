@@ -1,4 +1,5 @@
 pub mod Session
+pub mod Answers
 pub mod Formed
 pub mod Calls
 pub mod Pieces

@@ -3,7 +3,7 @@ use Rattle.wavelengths.specs.declared.Floods.{Floods}
 use Rattle.wavelengths.specs.Wavelength.{pair}
 use Rattle.mesh.specs.declared.Mesh.{Mesh}
 use Rattle.mesh.specs.declared.Plan.{Plan}
-use Rattle.formed.specs.declared.Cut.{Cut}
+use Rattle.formed.specs.Cut.{Cut}
 use Rattle.recovery.specs.declared.Session.{Session}
 
 -- its flood on each wavelength

@@ -6,33 +6,34 @@ ghost use Rattle.std.specs.Prelude.{◌≡◌, replicate};
 ghost use Rattle.flood.specs.Machine.{fresh};
 ghost use Rattle.pieces.specs.Pieces.{chosen};
 ghost use Rattle.recovery.specs.Calls.{fresh_on, started, after_cut, after_delivery, after_run, after_mend, status_of, acted, routed};
-ghost use Rattle.recovery.specs.Pieces.{delivered_by, report_by, status_by};
+ghost use Rattle.recovery.specs.Pieces.{delivered_by};
 
-use changes::{Made, Moved};
+use backup::Acted;
 use flood::{Flood, Route};
-use formed::Cut;
-use mesh::{Answer, Mesh, Plan};
-use metres::Length;
-use status::Told;
+use flooding::running::Outcome;
+use mesh::{Mesh, Plan, Reason};
+use status::LinkStatus;
 
 // Mesh, plan, the cut link or none, and the flood on wavelength 1 and on wavelength 2.
 #[derive(Clone, Copy)]
 pub struct Session {
     pub mesh: Mesh,
     pub plan: Plan,
-    pub cut: Cut,
+    pub cut: Option<u16>,
     pub first: Flood,
     pub second: Flood,
 }
 
 // What start, cut and mend give.
+// form: no Result, since by 01 a refused start gives all zeros with no cut, and a refused call hands the session back.
 #[derive(Clone, Copy)]
 pub struct Change {
     pub session: Session,
-    pub answer: Answer,
+    pub answer: Result<(), Reason>,
 }
 
 // What a delivery answers: what became of its link, with the node that acted, or a refusal.
+// form: no Result, since 01 has one enum answer it, of three cases with the node and a refusal with number and place.
 #[derive(Clone, Copy)]
 pub enum Delivered {
     Taken(u8),
@@ -49,38 +50,20 @@ pub struct Delivery {
 
 // What a run reports: how many deliveries it made and whether it is at rest, or a refusal.
 #[derive(Clone, Copy)]
-pub enum Report {
-    Made { count: u32, rest: bool },
-    Refused { number: u8, place: usize },
-}
-
-#[derive(Clone, Copy)]
 pub struct Run {
     pub session: Session,
-    pub report: Report,
-}
-
-// A link's state on a wavelength, how many links are under way on it, and its route length, or a refusal.
-#[derive(Clone, Copy)]
-pub enum Status {
-    Link {
-        state: u8,
-        under_way: u16,
-        route: Length,
-    },
-    Refused {
-        number: u8,
-        place: usize,
-    },
+    pub report: Result<Outcome, Reason>,
 }
 
 // What the route query gives: the links of a wavelength's route from its x on, none on a refusal.
+// form: no Result, since the clause of `route` and the definition `routed` say that a refused route has no links.
 #[derive(Clone, Copy)]
 pub struct Routed {
     pub route: Route,
-    pub answer: Answer,
+    pub answer: Result<(), Reason>,
 }
 
+// form: each call reads the fields into locals: by references into the session a cut of the triangle takes 28 percent more instructions.
 impl Session {
     // The largest node and link counts.
     pub const MOST_NODES: usize = 64;
@@ -93,7 +76,7 @@ impl Session {
     {
         let first = quiet();
         let second = quiet();
-        let cut = Cut::Nothing;
+        let cut = None;
         Session {
             mesh,
             plan,
@@ -109,17 +92,9 @@ impl Session {
     {
         let first = quiet();
         let second = quiet();
-        let cut = Cut::Nothing;
-        let answer = queries::tested(
-            mesh,
-            &plan.directions,
-            cut,
-            &first.states,
-            &first.reached,
-            &second.states,
-            &second.reached,
-        );
-        let Answer::Accepted = answer else {
+        let cut = None;
+        let answer = queries::tested(mesh, &plan.directions, cut, &first, &second);
+        let Ok(()) = answer else {
             let session = Session::fresh(mesh::zero_mesh(), zero_plan());
             return Change { session, answer };
         };
@@ -142,21 +117,15 @@ impl Session {
         let before = self.cut;
         let mut first = self.first;
         let mut second = self.second;
-        let mut reached1 = first.reached;
-        let mut reached2 = second.reached;
         let answer = changes::cut(
             mesh,
             &plan.directions,
             before,
-            &mut first.states,
-            &mut reached1,
-            &mut second.states,
-            &mut reached2,
+            &mut first,
+            &mut second,
             link,
         );
-        let cut = cut_after(answer, before, Cut::Link(link));
-        first.reached = reached1;
-        second.reached = reached2;
+        let cut = cut_after(answer, before, Some(link));
         let session = Session {
             mesh,
             plan,
@@ -176,22 +145,16 @@ impl Session {
         let cut = self.cut;
         let mut first = self.first;
         let mut second = self.second;
-        let mut reached1 = first.reached;
-        let mut reached2 = second.reached;
         let moved = changes::deliver(
             mesh,
             &plan.directions,
             cut,
-            &mut first.states,
-            &mut reached1,
-            &mut second.states,
-            &mut reached2,
+            &mut first,
+            &mut second,
             link,
             wavelength,
         );
         let answer = delivery_answer(moved);
-        first.reached = reached1;
-        second.reached = reached2;
         self.first = first;
         self.second = second;
         let session = self;
@@ -208,21 +171,14 @@ impl Session {
         let cut = self.cut;
         let mut first = self.first;
         let mut second = self.second;
-        let mut reached1 = first.reached;
-        let mut reached2 = second.reached;
-        let made = changes::run(
+        let report = changes::run(
             mesh,
             &plan.directions,
             cut,
-            &mut first.states,
-            &mut reached1,
-            &mut second.states,
-            &mut reached2,
+            &mut first,
+            &mut second,
             allowance,
         );
-        let report = run_report(made);
-        first.reached = reached1;
-        second.reached = reached2;
         self.first = first;
         self.second = second;
         let session = self;
@@ -238,17 +194,8 @@ impl Session {
         let before = self.cut;
         let f = self.first;
         let g = self.second;
-        let answer = queries::mend_answer(
-            mesh,
-            &plan.directions,
-            before,
-            &f.states,
-            &f.reached,
-            &g.states,
-            &g.reached,
-            link,
-        );
-        let cut = cut_after(answer, before, Cut::Nothing);
+        let answer = queries::mend_answer(mesh, &plan.directions, before, &f, &g, link);
+        let cut = cut_after(answer, before, None);
         let first = flood_after(answer, f);
         let second = flood_after(answer, g);
         let session = Session {
@@ -262,7 +209,7 @@ impl Session {
     }
 
     // A link's state on a wavelength, how many links are under way on it, and its route length.
-    pub fn status(self, link: u16, wavelength: u8) -> Status
+    pub fn status(self, link: u16, wavelength: u8) -> Result<LinkStatus, Reason>
         ensures { result ≡ status_of self link wavelength }
     {
         let mesh = self.mesh;
@@ -270,18 +217,15 @@ impl Session {
         let cut = self.cut;
         let first = self.first;
         let second = self.second;
-        let told = status::status(
+        status::status(
             mesh,
             &plan.directions,
             cut,
-            &first.states,
-            &first.reached,
-            &second.states,
-            &second.reached,
+            &first,
+            &second,
             link,
             wavelength,
-        );
-        link_status(told)
+        )
     }
 
     // The links of a wavelength's route from its x on, where a cut stands and nothing is under way on that wavelength.
@@ -293,19 +237,20 @@ impl Session {
         let cut = self.cut;
         let first = self.first;
         let second = self.second;
-        let found = queries::route(
-            mesh,
-            &plan.directions,
-            cut,
-            &first.states,
-            &first.reached,
-            &second.states,
-            &second.reached,
-            wavelength,
-        );
-        let route = found.route;
-        let answer = found.answer;
-        Routed { route, answer }
+        let found = queries::route(mesh, &plan.directions, cut, &first, &second, wavelength);
+        match found {
+            Ok(route) => Routed {
+                route,
+                answer: Ok(()),
+            },
+            Err(reason) => Routed {
+                route: Route {
+                    links: [0u16; Session::MOST_LINKS],
+                    length: 0,
+                },
+                answer: Err(reason),
+            },
+        }
     }
 }
 
@@ -320,28 +265,22 @@ fn quiet() -> Flood
 }
 
 // The cut after a call that answers so.
-fn cut_after(answer: Answer, before: Cut, after: Cut) -> Cut
+fn cut_after(answer: Result<(), Reason>, before: Option<u16>, after: Option<u16>) -> Option<u16>
     ensures { result ≡ chosen answer before after }
 {
     match answer {
-        Answer::Accepted => after,
-        Answer::Refused {
-            number: _,
-            place: _,
-        } => before,
+        Ok(()) => after,
+        Err(_) => before,
     }
 }
 
 // The flood on a wavelength after a mend that answers so.
-fn flood_after(answer: Answer, before: Flood) -> Flood
+fn flood_after(answer: Result<(), Reason>, before: Flood) -> Flood
     ensures { result ≡ chosen answer before (fresh 256 64) }
 {
     match answer {
-        Answer::Accepted => quiet(),
-        Answer::Refused {
-            number: _,
-            place: _,
-        } => before,
+        Ok(()) => quiet(),
+        Err(_) => before,
     }
 }
 
@@ -353,54 +292,23 @@ fn zero_plan() -> Plan
     }
 }
 
-// What a delivery on a link from a to b answers, by the state v that the link has then.
-fn acted_on(v: u8, a: u8, b: u8) -> Delivered
-    ensures { result ≡ acted a b v }
+// What a delivery answers, by what became of its link: the state that the link has then says which node acted.
+fn acted_on(link: Acted) -> Delivered
+    ensures { result ≡ acted link.tail link.head link.state }
 {
-    match v {
-        2 => Delivered::Taken(b),
-        3 => Delivered::TurnedBack(b),
-        0 | 1 | 4 | 5..=255 => Delivered::Released(a),
+    match link.state {
+        2 => Delivered::Taken(link.head),
+        3 => Delivered::TurnedBack(link.head),
+        0 | 1 | 4 | 5..=255 => Delivered::Released(link.tail),
     }
 }
 
-// What a delivery answers, by what became of its link.
-fn delivery_answer(m: Moved) -> Delivered
-    ensures { result ≡ delivered_by m.answer (acted m.tail m.head m.state) }
+// What a delivery answers, refused or not.
+fn delivery_answer(moved: Result<Acted, Reason>) -> Delivered
+    ensures { result ≡ delivered_by moved }
 {
-    let answer = m.answer;
-    match answer {
-        Answer::Accepted => acted_on(m.state, m.tail, m.head),
-        Answer::Refused { number, place } => Delivered::Refused { number, place },
-    }
-}
-
-// What a run reports, by what it made.
-fn run_report(m: Made) -> Report
-    ensures { result ≡ report_by m.answer (Report.Made m.made m.rest) }
-{
-    let answer = m.answer;
-    match answer {
-        Answer::Accepted => Report::Made {
-            count: m.made,
-            rest: m.rest,
-        },
-        Answer::Refused { number, place } => Report::Refused { number, place },
-    }
-}
-
-// The status of a link, by what is told of it.
-fn link_status(t: Told) -> Status
-    ensures { result ≡ status_by t.answer (Status.Link t.state t.under_way t.route) }
-{
-    let answer = t.answer;
-    let route = t.route;
-    match answer {
-        Answer::Accepted => Status::Link {
-            state: t.state,
-            under_way: t.under_way,
-            route,
-        },
-        Answer::Refused { number, place } => Status::Refused { number, place },
+    match moved {
+        Ok(link) => acted_on(link),
+        Err(Reason { number, place }) => Delivered::Refused { number, place },
     }
 }

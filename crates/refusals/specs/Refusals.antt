@@ -2,14 +2,13 @@
 -- of links, the cut, the states on the wavelength that is named, and the link and the wavelength that are named. Definitions only.
 use Rattle.std.specs.Prelude.{ℕ, Bool, true, false, not, List, eqb, ltb}
 use Rattle.scan.specs.Entry.{at}
-use Rattle.mesh.specs.declared.Answer.{Answer}
-use Rattle.mesh.specs.declared.Answer.TheVariants.{Accepted}
+use Rattle.mesh.specs.Answer.{Answer, Accepted}
 use Rattle.mesh.specs.Mesh.{must, and_then}
 use Rattle.flood.specs.Machine.{under_way}
 use Rattle.flood.specs.Topology.{under_way_of}
 use Rattle.wavelengths.specs.Wavelength.{is_wavelength}
-use Rattle.formed.specs.declared.Cut.{Cut}
-use Rattle.formed.specs.declared.Cut.TheVariants as cut
+use Rattle.formed.specs.Cut.{Cut}
+use Rattle.formed.specs.Cut as cut
 
 -- a cut stands; link k is the cut one
 abbrev pub standing : Cut → Bool

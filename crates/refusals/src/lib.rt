@@ -4,39 +4,33 @@
 ghost use Rattle.std.specs.Prelude.{◌≡◌};
 ghost use Rattle.scan.specs.Entry.{at};
 ghost use Rattle.flood.specs.Machine.{under_way};
+ghost use Rattle.mesh.specs.Answer.{Refused};
 ghost use Rattle.refusals.specs.Refusals.{is_cut, standing, resting, link_answer, cut_answer, deliver_answer, run_answer, route_answer, mend_answer, status_answer};
 
-use formed::Cut;
-use mesh::Answer;
+use mesh::Reason;
 use wavelengths::is_wavelength;
 
-fn refused(number: u8, place: u16) -> Answer
-    ensures { result ≡ Answer.Refused number place }
+fn refused(number: u8, place: u16) -> Result<(), Reason>
+    ensures { result ≡ Refused number place }
 {
-    Answer::Refused {
+    Err(Reason {
         number,
         place: place as usize,
-    }
+    })
 }
 
 // Whether a cut stands.
-pub fn is_standing(cut: Cut) -> bool
+pub fn is_standing(cut: Option<u16>) -> bool
     ensures { result ≡ standing cut }
 {
-    match cut {
-        Cut::Link(_) => true,
-        Cut::Nothing => false,
-    }
+    cut.is_some()
 }
 
 // Whether link k is the cut one.
-pub fn is_cut(cut: Cut, k: u16) -> bool
+pub fn is_cut(cut: Option<u16>, k: u16) -> bool
     ensures { result ≡ is_cut cut k }
 {
-    match cut {
-        Cut::Link(c) => c == k,
-        Cut::Nothing => false,
-    }
+    cut == Some(k)
 }
 
 // Whether none of the first `count` links is under way.
@@ -59,107 +53,109 @@ fn is_busy(states: &[u8], k: u16) -> bool
 }
 
 // Every call that names a link: 12.
-fn link_answer(tested: Answer, count: u16, link: u16) -> Answer
+fn link_answer(tested: Result<(), Reason>, count: u16, link: u16) -> Result<(), Reason>
     ensures { result ≡ link_answer tested count link }
 {
-    let Answer::Accepted = tested else {
-        return tested;
-    };
+    tested?;
     if count <= link {
         return refused(12, link);
     }
-    Answer::Accepted
+    Ok(())
 }
 
 // Status: 12, 14.
-pub fn status_answer(tested: Answer, count: u16, link: u16, wavelength: u8) -> Answer
+pub fn status_answer(
+    tested: Result<(), Reason>,
+    count: u16,
+    link: u16,
+    wavelength: u8,
+) -> Result<(), Reason>
     ensures { result ≡ status_answer tested count link wavelength }
 {
-    let a = link_answer(tested, count, link);
-    let Answer::Accepted = a else {
-        return a;
-    };
+    link_answer(tested, count, link)?;
     if is_wavelength(wavelength) {
-        return Answer::Accepted;
+        return Ok(());
     }
     refused(14, 0)
 }
 
 // Cut: 12, 22.
-pub fn cut_answer(tested: Answer, count: u16, cut: Cut, link: u16) -> Answer
+pub fn cut_answer(
+    tested: Result<(), Reason>,
+    count: u16,
+    cut: Option<u16>,
+    link: u16,
+) -> Result<(), Reason>
     ensures { result ≡ cut_answer tested count cut link }
 {
-    let a = link_answer(tested, count, link);
-    let Answer::Accepted = a else {
-        return a;
-    };
+    link_answer(tested, count, link)?;
     if is_standing(cut) {
         return refused(22, link);
     }
-    Answer::Accepted
+    Ok(())
 }
 
 // Delivery, on a wavelength with these states: 12, 14, 23, 24.
 pub fn deliver_answer(
-    tested: Answer,
+    tested: Result<(), Reason>,
     count: u16,
-    cut: Cut,
+    cut: Option<u16>,
     states: &[u8],
     link: u16,
     wavelength: u8,
-) -> Answer
+) -> Result<(), Reason>
     ensures { result ≡ deliver_answer tested count cut states.now link wavelength }
 {
-    let a = status_answer(tested, count, link, wavelength);
-    let Answer::Accepted = a else {
-        return a;
-    };
+    status_answer(tested, count, link, wavelength)?;
     if !is_standing(cut) {
         return refused(23, link);
     }
     if is_busy(states, link) {
-        return Answer::Accepted;
+        return Ok(());
     }
     refused(24, link)
 }
 
 // Run: 23, with the place 0.
-pub fn run_answer(tested: Answer, cut: Cut) -> Answer
+pub fn run_answer(tested: Result<(), Reason>, cut: Option<u16>) -> Result<(), Reason>
     ensures { result ≡ run_answer tested cut }
 {
-    let Answer::Accepted = tested else {
-        return tested;
-    };
+    tested?;
     if is_standing(cut) {
-        return Answer::Accepted;
+        return Ok(());
     }
     refused(23, 0)
 }
 
 // The route query: 14, 23, with the place 0.
-pub fn route_answer(tested: Answer, cut: Cut, wavelength: u8) -> Answer
+pub fn route_answer(
+    tested: Result<(), Reason>,
+    cut: Option<u16>,
+    wavelength: u8,
+) -> Result<(), Reason>
     ensures { result ≡ route_answer tested cut wavelength }
 {
-    let Answer::Accepted = tested else {
-        return tested;
-    };
+    tested?;
     if !is_wavelength(wavelength) {
         return refused(14, 0);
     }
     if is_standing(cut) {
-        return Answer::Accepted;
+        return Ok(());
     }
     refused(23, 0)
 }
 
 // Mend: 12, 23, 26, 25.
-pub fn mend_answer(tested: Answer, count: u16, cut: Cut, rest: bool, link: u16) -> Answer
+pub fn mend_answer(
+    tested: Result<(), Reason>,
+    count: u16,
+    cut: Option<u16>,
+    rest: bool,
+    link: u16,
+) -> Result<(), Reason>
     ensures { result ≡ mend_answer tested count cut rest link }
 {
-    let a = link_answer(tested, count, link);
-    let Answer::Accepted = a else {
-        return a;
-    };
+    link_answer(tested, count, link)?;
     if !is_standing(cut) {
         return refused(23, link);
     }
@@ -167,7 +163,7 @@ pub fn mend_answer(tested: Answer, count: u16, cut: Cut, rest: bool, link: u16) 
         return refused(26, link);
     }
     if rest {
-        return Answer::Accepted;
+        return Ok(());
     }
     refused(25, link)
 }

@@ -1,7 +1,7 @@
 // The lines of calls and of sessions (docs/CORPUS.md, lines of a script).
 #![tactic(auto)]
 
-pub mod call;
+pub mod reply;
 pub mod session;
 
 use streams::print::word;

@@ -1,92 +1,63 @@
 // The lines of a session at the end of a script, and of a route query.
 use crate::form;
 use flood::{Flood, Route};
-use formed::Cut;
-use mesh::Answer;
+use mesh::Reason;
 use recovery::Session;
 use streams::print::{answer, digits, end, field, number, word};
 
 // The cut, and of each wavelength the states of the first `links` links and the reached nodes.
 pub fn show_session(s: Session, lent: bool, links: u16) {
     form(lent);
-    let cut = s.cut;
-    show_cut(cut);
-    let first = s.first;
-    show_flood(first, 1, lent, links);
-    let second = s.second;
-    show_flood(second, 2, lent, links);
+    show_cut(s.cut);
+    show_flood(&s.first, 1, lent, links);
+    show_flood(&s.second, 2, lent, links);
 }
 
-fn show_flood(flood: Flood, wavelength: u64, lent: bool, links: u16) {
-    let states = flood.states;
+fn show_flood(flood: &Flood, wavelength: u64, lent: bool, links: u16) {
     form(lent);
     field(b"states", wavelength);
-    show_states(&states, links as usize);
-    let reached = flood.reached;
+    show_states(&flood.states, usize::from(links));
     form(lent);
     field(b"reached", wavelength);
-    show_reached(&reached);
+    show_reached(&flood.reached);
 }
 
-fn show_cut(cut: Cut) {
+fn show_cut(cut: Option<u16>) {
     match cut {
-        Cut::Link(k) => field(b"cut-is", k as u64),
-        Cut::Nothing => word(b"cut none"),
+        Some(k) => field(b"cut-is", u64::from(k)),
+        None => word(b"cut none"),
     }
     end();
 }
 
-fn state(v: u8) {
-    if v < 5 {
-        digits(v as u64);
-    } else {
-        word(b"?");
-    }
-}
-
 fn show_states(states: &[u8; 256], links: usize) {
     word(b" ");
-    let mut i: usize = 0;
-    while i < 256 {
-        if i < links {
-            state(states[i]);
+    for state in states.iter().take(links) {
+        if *state < 5 {
+            digits(u64::from(*state));
+        } else {
+            word(b"?");
         }
-        i += 1;
     }
     end();
 }
 
 fn show_reached(reached: &[bool; 64]) {
-    let mut v: usize = 0;
-    while v < 64 {
-        if reached[v] {
+    for (v, is_reached) in reached.iter().enumerate() {
+        if *is_reached {
             number(v as u64);
         }
-        v += 1;
     }
     end();
 }
 
 // The line of a route query: its wavelength and its answer, then the links of an accepted one.
-pub fn show_route(lent: bool, wavelength: u8, a: Answer, route: Route) {
+pub fn show_route(lent: bool, wavelength: u8, a: Result<(), Reason>, route: Route) {
     form(lent);
-    field(b"route", wavelength as u64);
+    field(b"route", u64::from(wavelength));
     answer(a);
-    let links = route.links;
-    show_links(&links, route.length as usize);
-    end();
-}
-
-fn show_links(links: &[u16; 256], length: usize) {
-    let mut i: usize = 0;
-    while i < 256 {
-        if i < length {
-            link(links[i]);
-        }
-        i += 1;
+    for k in route.links.iter().take(usize::from(route.length)) {
+        number(u64::from(*k));
     }
-}
-
-fn link(k: u16) {
-    number(k as u64);
+    end();
 }

@@ -1,34 +1,81 @@
-// The calls that are read and not made yet: for each its letter, the letter of its form in place, and its number.
-use crate::{MOST_CALLS, QUERY};
+// The calls that are read and not made yet.
+ghost use Rattle.std.specs.Prelude.{◌≡◌, ◌+◌, ◌<◌, ◌↔◌, IsTrue};
+
+use crate::MOST_CALLS;
+use std::marker::Model;
 use streams::input::{next_byte, next_four, next_two};
 
-// Holds a call behind those that are held, and says how many are held then. A route query is not held.
-pub(crate) fn hold(
-    letters: &mut [u8],
-    lent: &mut [u8],
-    numbers: &mut [u32],
-    held: usize,
-    letter: u8,
-) -> usize {
-    if letter == QUERY {
-        return held;
+// For each call its letter, the letter of its form in place, and its number. A clause sees how many are held.
+// form: an array for each, since lists::make_calls takes the letters and the numbers of a list as two slices.
+#[derive(Drop)]
+pub(crate) struct Held {
+    letters: [u8; MOST_CALLS],
+    lent: [u8; MOST_CALLS],
+    numbers: [u32; MOST_CALLS],
+    count: usize,
+}
+
+impl Model for Held {
+    ghost use Rattle.std.specs.Prelude.{ℕ, ◌≤◌};
+    ghost use Rattle.script.specs.declared.TheConstants.{MOST_CALLS};
+
+    ghost Value = { ℕ };
+
+    ghost view = { λ h. h.count };
+
+    ghost invariant = { λ h. h.count ≤ MOST_CALLS };
+}
+
+impl Held {
+    pub(crate) fn new() -> Held
+        ensures { result ≡ 0 }
+    {
+        Held {
+            letters: [0; MOST_CALLS],
+            lent: [0; MOST_CALLS],
+            numbers: [0; MOST_CALLS],
+            count: 0,
+        }
     }
-    if letters.len() <= held {
-        return held;
+
+    pub(crate) fn is_full(&self) -> bool
+        ensures { IsTrue result ↔ (self.now ≡ MOST_CALLS) }
+    {
+        self.count == MOST_CALLS
     }
-    if lent.len() <= held {
-        return held;
+
+    // Holds the call of this letter, whose number comes next.
+    pub(crate) fn hold(&mut self, letter: u8)
+        requires { self.old < MOST_CALLS }
+        ensures { self.new ≡ self.old + 1 }
+    {
+        self.letters[self.count] = letter;
+        self.lent[self.count] = lent_letter(letter);
+        self.numbers[self.count] = next_number(letter);
+        self.count += 1;
     }
-    if numbers.len() <= held {
-        return held;
+
+    pub(crate) fn clear(&mut self)
+        ensures { self.new ≡ 0 }
+    {
+        self.count = 0;
     }
-    letters[held] = letter;
-    lent[held] = lent_letter(letter);
-    numbers[held] = next_number(letter);
-    held + 1
+
+    pub(crate) fn letters(&self) -> &[u8] {
+        &self.letters[..self.count]
+    }
+
+    pub(crate) fn lent(&self) -> &[u8] {
+        &self.lent[..self.count]
+    }
+
+    pub(crate) fn numbers(&self) -> &[u32] {
+        &self.numbers[..self.count]
+    }
 }
 
 // The letter of the same call on a session that is lent.
+// form: a match on bytes, since make_calls takes the letters of a list as bytes.
 fn lent_letter(letter: u8) -> u8 {
     match letter {
         b'C' => b'c',
@@ -39,10 +86,10 @@ fn lent_letter(letter: u8) -> u8 {
 }
 
 // The number of a call: its link, its link × 256 + its wavelength, or its allowance.
+// form: a match on a byte, since the letter is held as it was read, and make_calls takes it so.
 fn next_number(letter: u8) -> u32 {
     match letter {
-        b'C' => next_two() as u32,
-        b'M' => next_two() as u32,
+        b'C' | b'M' => u32::from(next_two()),
         b'R' => next_four(),
         _ => next_named(),
     }
@@ -52,13 +99,5 @@ fn next_number(letter: u8) -> u32 {
 fn next_named() -> u32 {
     let wavelength = next_byte();
     let link = next_two();
-    wavelength as u32 + 256 * (link as u32)
-}
-
-// Whether a list ends: at a route query, or where no more calls can be held.
-pub(crate) fn ends(held: usize, letter: u8) -> bool {
-    if letter == QUERY {
-        return true;
-    }
-    MOST_CALLS <= held
+    u32::from(wavelength) + 256 * u32::from(link)
 }

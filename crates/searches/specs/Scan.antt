@@ -2,6 +2,10 @@
 use Rattle.std.specs.Prelude.{ℕ, ◌+◌, ◌≤◌, ◌≡◌, Bool, true}
 use Rattle.scan.specs.Lowest.{any, None}
 
+-- a test, as its calls show, says p of the links from m on
+abbrev pub Tells : (ℕ → Bool → Type 0) → (ℕ → Bool) → ℕ → Type 0
+Tells calls p m = (i : ℕ) (t : Bool) → m ≤ i → calls i t → t ≡ p i
+
 -- a scan of `links` links stands at i: none below i passes
 pub record Passed (p : ℕ → Bool) (links i : ℕ) : Type 0 where
   pub within : i ≤ links

@@ -12,10 +12,11 @@ pub mod state;
 pub fn links_of(count: usize) -> usize
     ensures { result ≡ min count 256 }
 {
-    if count < 256 { count } else { 256 }
+    count.min(256)
 }
 
 // Whether a link in state v is under way: offered or refused.
+#[tactic(auto, using(std::proofs::lemmas::Bool::Decides::nat_tests), unfolding(flood::specs::Machine::under_way))]
 pub fn is_under_way(v: u8) -> bool
     ensures { result ≡ under_way v }
 {

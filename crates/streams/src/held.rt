@@ -1,69 +1,95 @@
-// Lines of words and numbers, held in a buffer until it is written. Each function answers where the next byte goes; a byte past the
-// buffer's end is left out.
-use crate::print::STDOUT_FILENO;
+// Lines of words and numbers, held in a buffer until it is written.
+ghost use Rattle.std.specs.Prelude.{◌≡◌, ◌≤◌, ℕ, List, [], ◌∷◌, ◌++◌, take};
+ghost use Rattle.streams.specs.Lines.{kept, AddsNumber};
 
-// The size of a buffer for many lines, and where it counts as full: what is left holds any line of up to 2,048 bytes.
-pub const SIZE: usize = 16384;
+use crate::print;
+use std::marker::Model;
 
-const FULL: usize = 14336;
+// The size of the buffer, and from where on it counts as full: what is left there has room for any line of up to 2,048 bytes.
+const SIZE: usize = 16384;
 
-fn put_byte(out: &mut [u8], at: usize, b: u8) -> usize {
-    if at < out.len() {
-        out[at] = b;
-        return at + 1;
+const FULL: usize = SIZE - 2048;
+
+// The bytes that are held. One past the buffer's end is left out.
+#[derive(Drop)]
+pub struct Held {
+    bytes: [u8; SIZE],
+    used: usize,
+}
+
+impl Model for Held {
+    ghost Value = { List ℕ };
+
+    ghost view = { λ h. take h.used h.bytes };
+
+    ghost invariant = { λ h. h.used ≤ 16384 };
+}
+
+impl Held {
+    pub fn new() -> Self
+        ensures { result ≡ [] }
+    {
+        Held {
+            bytes: [0; SIZE],
+            used: 0,
+        }
     }
-    at
-}
 
-fn put_word(out: &mut [u8], at: usize, word: &[u8]) -> usize {
-    let mut next = at;
-    let mut i: usize = 0;
-    while i < word.len() {
-        next = put_byte(out, next, word[i]);
-        i += 1;
+    pub fn word(&mut self, text: &[u8])
+        ensures { self.new ≡ kept (self.old ++ text.now) }
+    {
+        let n = text.len().min(SIZE - self.used);
+        let end = self.used + n;
+        self.bytes[self.used..end].copy_from_slice(&text[..n]);
+        self.used = end;
     }
-    next
-}
 
-// A space and a number.
-pub fn put_number(out: &mut [u8], at: usize, n: u64) -> usize {
-    let next = put_byte(out, at, b' ');
-    let mut digits = [0u8; 20];
-    let k = io::decimal(n, &mut digits);
-    put_word(out, next, &digits[..k])
-}
-
-// A space and a hyphen, where there is no number.
-pub fn put_hyphen(out: &mut [u8], at: usize) -> usize {
-    put_word(out, at, b" -")
-}
-
-// A word and a number.
-pub fn put_field(out: &mut [u8], at: usize, word: &[u8], n: u64) -> usize {
-    let next = put_word(out, at, word);
-    put_number(out, next, n)
-}
-
-// A line: a word and two numbers.
-pub fn put_pair(out: &mut [u8], at: usize, word: &[u8], first: u64, second: u64) -> usize {
-    let next = put_field(out, at, word, first);
-    let end = put_number(out, next, second);
-    end_line(out, end)
-}
-
-// The end of a line. What is held is written where the buffer is full.
-pub fn end_line(out: &mut [u8], at: usize) -> usize {
-    let end = put_byte(out, at, b'\n');
-    if end < FULL {
-        return end;
+    // A space and a number.
+    // form: `write!` answers a Result at each piece, which every caller would have to take, and here nothing fails: a byte without room is left out.
+    pub fn number(&mut self, n: u64)
+        ensures { AddsNumber self.old self.new n }
+    {
+        self.word(b" ");
+        let mut digits = [0u8; 20];
+        let count = io::decimal(n, &mut digits);
+        self.word(&digits[..count]);
     }
-    write(out, end);
-    0
-}
 
-// Writes the first so many bytes.
-pub fn write(out: &[u8], end: usize) {
-    if end <= out.len() {
-        io::write_all(STDOUT_FILENO, &out[0..end]);
+    // A space and a hyphen, where there is no number.
+    pub fn hyphen(&mut self)
+        ensures { self.new ≡ kept (self.old ++ 32 ∷ 45 ∷ []) }
+    {
+        self.word(b" -");
+    }
+
+    // A word and a number.
+    pub fn field(&mut self, text: &[u8], n: u64)
+        ensures { AddsNumber (self.old ++ text.now) self.new n }
+    {
+        self.word(text);
+        self.number(n);
+    }
+
+    // A line: a word and two numbers.
+    pub fn pair(&mut self, text: &[u8], first: u64, second: u64) {
+        self.field(text, first);
+        self.number(second);
+        self.end_line();
+    }
+
+    // The end of a line. What is held is written where the buffer is full.
+    pub fn end_line(&mut self) {
+        self.word(b"\n");
+        if FULL <= self.used {
+            self.write();
+        }
+    }
+
+    // Writes what is held, and holds nothing then.
+    pub fn write(&mut self)
+        ensures { self.new ≡ [] }
+    {
+        print::word(&self.bytes[..self.used]);
+        self.used = 0;
     }
 }

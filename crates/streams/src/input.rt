@@ -1,57 +1,55 @@
 // Numbers on standard input, low byte first; 0 past its end.
+ghost use Rattle.std.specs.Prelude.{◌≤◌, length, IfOk, IfSome};
 ghost use Rattle.io.specs.Counts.{IsPrefixLen};
 
+use crate::print::STDERR_FILENO;
 use std::io::{Read, Stdin};
 
 // The number of the descriptor that programs read from.
 pub const STDIN_FILENO: i32 = 0;
 
-// What reading gave: so many bytes, or none where the input cannot be read.
-#[derive(Clone, Copy)]
-pub struct Came {
-    pub count: usize,
-    pub failed: bool,
+// Reads into the front of `space` until it is full or the input ends, and answers how many bytes came. A read that fails after the first counts as the input's
+// end.
+pub fn read_input(input: &mut Stdin, space: &mut [u8]) -> std::io::Result<usize>
+    ensures { IfOk result (λ count. IsPrefixLen count space.new) }
+{
+    let first = input.read(space)?;
+    if first == 0 {
+        return Ok(0);
+    }
+    Ok(first + io::read_full(STDIN_FILENO, &mut space[first..]))
 }
 
-// Reads into the front of `space` until it is full or the input ends. A read that fails after the first counts as the input's end.
-pub fn read_input(input: &mut Stdin, space: &mut [u8]) -> Came
-    ensures { IsPrefixLen result.count space.new }
+// The bytes that are read so; where the input cannot be read, the program says so on stderr, and there are none.
+pub fn read_or_say<'a>(input: &mut Stdin, space: &'a mut [u8], program: &[u8]) -> Option<&'a [u8]>
+    ensures { IfSome result (λ bytes. length bytes.now ≤ length space.old) }
 {
-    let Ok(first) = input.read(space) else {
-        return Came {
-            count: 0,
-            failed: true,
-        };
+    let Ok(count) = read_input(input, space) else {
+        io::write_all(STDERR_FILENO, program);
+        io::write_all(STDERR_FILENO, b": standard input cannot be read\n");
+        return None;
     };
-    if first == 0 {
-        return Came {
-            count: 0,
-            failed: false,
-        };
-    }
-    let rest = io::read_full(STDIN_FILENO, &mut space[first..]);
-    Came {
-        count: first + rest,
-        failed: false,
-    }
+    Some(&space[..count])
+}
+
+// The next N bytes.
+fn next<const N: usize>() -> [u8; N] {
+    let mut bytes = [0u8; N];
+    io::read_full(STDIN_FILENO, &mut bytes);
+    bytes
 }
 
 pub fn next_byte() -> u8 {
-    let mut b = [0u8; 1];
-    io::read_full(STDIN_FILENO, &mut b);
-    b[0]
+    let [b] = next::<1>();
+    b
 }
 
 pub fn next_two() -> u16 {
-    let low = next_byte();
-    let high = next_byte();
-    low as u16 + 256 * (high as u16)
+    u16::from_le_bytes(next())
 }
 
 pub fn next_four() -> u32 {
-    let low = next_two();
-    let high = next_two();
-    low as u32 + 65536 * (high as u32)
+    u32::from_le_bytes(next())
 }
 
 // Reads so many bytes into the front of `space`, where they fit, and answers how many came.
@@ -61,5 +59,14 @@ pub fn next_bytes(space: &mut [u8], length: usize) -> usize
     if space.len() < length {
         return 0;
     }
-    io::read_full(STDIN_FILENO, &mut space[0..length])
+    io::read_full(STDIN_FILENO, &mut space[..length])
+}
+
+// The bytes that come after their number, where they fit.
+pub fn next_counted(space: &mut [u8]) -> &[u8]
+    ensures { length result.now ≤ length space.old }
+{
+    let length = next_two() as usize;
+    let came = next_bytes(space, length);
+    &space[..came]
 }

@@ -1,5 +1,5 @@
 // Words, numbers and answers on standard output.
-use mesh::Answer;
+use mesh::Reason;
 
 // The numbers of the descriptors that programs write to.
 pub const STDOUT_FILENO: i32 = 1;
@@ -44,49 +44,38 @@ pub fn refused(n: u64, place: u64) {
     number(place);
 }
 
-pub fn answer(a: Answer) {
+// form: a Display writes to a writer, and std has one to standard output only from a runtime, which the programs that read cases do not take.
+pub fn answer(a: Result<(), Reason>) {
     match a {
-        Answer::Accepted => word(b" accepted"),
-        Answer::Refused { number: n, place } => refused(n as u64, place as u64),
+        Ok(()) => word(b" accepted"),
+        Err(Reason { number: n, place }) => refused(n as u64, place as u64),
     }
 }
 
 // A line: a word and an answer.
-pub fn answer_line(text: &[u8], a: Answer) {
+pub fn answer_line(text: &[u8], a: Result<(), Reason>) {
     word(text);
     answer(a);
     end();
 }
 
-fn byte(b: u8) {
-    io::print_hex(STDOUT_FILENO, b as u64, 2);
-}
-
 // A line: a word and bytes, two digits each.
 pub fn hex(text: &[u8], bytes: &[u8]) {
     word(text);
-    if bytes.len() != 0 {
+    if !bytes.is_empty() {
         word(b" ");
     }
-    let mut i: usize = 0;
-    while i < bytes.len() {
-        byte(bytes[i]);
-        i += 1;
+    for b in bytes {
+        io::print_hex(STDOUT_FILENO, *b as u64, 2);
     }
     end();
-}
-
-fn byte_number(b: u8) {
-    number(b as u64);
 }
 
 // A line: a word and bytes, as numbers.
 pub fn numbers(text: &[u8], bytes: &[u8]) {
     word(text);
-    let mut i: usize = 0;
-    while i < bytes.len() {
-        byte_number(bytes[i]);
-        i += 1;
+    for b in bytes {
+        number(*b as u64);
     }
     end();
 }

@@ -2,106 +2,76 @@
 // only line. An input that cannot be read is no empty book.
 #![tactic(auto)]
 
+ghost use Rattle.std.specs.Prelude.{◌≡◌, ◌==◌, count_by};
+ghost use Rattle.std.specs.List.{enumerate_from};
+
+use books::read::read_mesh;
 use bridges::survey;
-use mesh::{Answer, Mesh};
-use streams::input::read_input;
-use streams::print::{STDERR_FILENO, answer_line, end, field, number, word};
+use mesh::Mesh;
+use streams::input::read_or_say;
+use streams::print::{end, field, number, word};
 
 fn main(rt: HostRuntime) {
     // 4,096 bytes, longer than any book: what stands past them changes nothing (`long_input` in crates/guarantees/proofs/Main.antt).
-    let mut book = io::buffer();
-    let came = read_input(&mut rt.stdin(), &mut book);
-    if came.failed {
-        io::write_all(STDERR_FILENO, b"survey: standard input cannot be read\n");
-        return;
+    let mut space = io::buffer();
+    if let Some(m) = read_or_say(&mut rt.stdin(), &mut space, b"survey").and_then(read_mesh) {
+        show_survey(&m);
     }
-    let length = came.count;
-    let d = codec::decode(&book[..length]);
-    let a = d.answer;
-    let Answer::Accepted = a else {
-        answer_line(b"read", a);
-        return;
-    };
-    show_survey(d.mesh);
 }
 
 // How many parts and bridges there are, a line for each part, a line for each bridge.
-fn show_survey(m: Mesh) {
-    let s = survey(m);
-    let parts = s.parts;
-    let bridges = s.bridges;
-    field(b"survey", count_parts(&parts, m.nodes));
-    number(count_bridges(&bridges));
+fn show_survey(m: &Mesh) {
+    let s = survey(*m);
+    let nodes = (m.nodes as usize).min(64);
+    let parts = &s.parts[..nodes];
+    field(b"survey", count_parts(parts) as u64);
+    number(count_bridges(&s.bridges) as u64);
     end();
-    let mut v: u8 = 0;
-    while v < m.nodes {
-        show_part(&parts, m.nodes, v);
-        v += 1;
+    for (v, lowest) in parts.iter().enumerate() {
+        if *lowest as usize == v {
+            show_part(parts, *lowest);
+        }
     }
-    show_bridges(m, &bridges);
-}
-
-// The part of a node, 0 past the last.
-fn part_of(parts: &[u8; 64], v: u8) -> u8 {
-    if v < 64 { parts[v as usize] } else { 0 }
+    show_bridges(m, &s.bridges);
 }
 
 // The nodes that are the lowest of their parts.
-fn count_parts(parts: &[u8; 64], nodes: u8) -> u64 {
-    let mut n: u64 = 0;
-    let mut v: u8 = 0;
-    while v < nodes {
-        if part_of(parts, v) == v {
-            n = n.wrapping_add(1);
-        }
-        v += 1;
-    }
-    n
+fn count_parts(parts: &[u8]) -> usize
+    ensures { result ≡ count_by (λ e. e.1 == e.0) (enumerate_from 0 parts.now) }
+{
+    parts
+        .iter()
+        .enumerate()
+        .filter(|(v, part)| **part as usize == *v)
+        .count()
 }
 
-fn count_bridges(bridges: &[u8; 256]) -> u64 {
-    let mut n: u64 = 0;
-    let mut k: usize = 0;
-    while k < 256 {
-        if bridges[k] == 1 {
-            n = n.wrapping_add(1);
-        }
-        k += 1;
-    }
-    n
+fn count_bridges(bridges: &[u8; 256]) -> usize
+    ensures { result ≡ count_by (λ mark. mark == 1) bridges.now }
+{
+    bridges.iter().filter(|mark| **mark == 1).count()
 }
 
-// The line of the part whose lowest node is v, where it is one.
-fn show_part(parts: &[u8; 64], nodes: u8, v: u8) {
-    if part_of(parts, v) != v {
-        return;
-    }
+// The line of the part whose lowest node this is.
+fn show_part(parts: &[u8], lowest: u8) {
     word(b"part");
-    let mut u: u8 = 0;
-    while u < nodes {
-        if part_of(parts, u) == v {
-            number(u as u64);
+    for (v, part) in parts.iter().enumerate() {
+        if *part == lowest {
+            number(v as u64);
         }
-        u += 1;
     }
     end();
 }
 
 // The lines of the bridges.
-fn show_bridges(m: Mesh, bridges: &[u8; 256]) {
-    let mut k: usize = 0;
-    while k < 256 {
-        if bridges[k] == 1 {
+fn show_bridges(m: &Mesh, bridges: &[u8; 256]) {
+    for (k, mark) in bridges.iter().enumerate() {
+        if *mark == 1 {
             let l = m.links[k];
-            show_bridge(k as u64, l.low, l.high);
+            field(b"bridge", k as u64);
+            number(l.low as u64);
+            number(l.high as u64);
+            end();
         }
-        k += 1;
     }
-}
-
-fn show_bridge(k: u64, low: u8, high: u8) {
-    field(b"bridge", k);
-    number(low as u64);
-    number(high as u64);
-    end();
 }

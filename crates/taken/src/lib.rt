@@ -12,17 +12,11 @@ use states::{links_of, state};
 const BLOCK: usize = 16;
 
 // Whether a link of the block at `from` is taken.
-fn some_within(states: &[u8; 256], from: usize) -> bool
+fn some_taken(states: &[u8; 256], from: usize) -> bool
     requires { from + 16 ≤ 256 }
     ensures { result ≡ any (λ j. is_taken states.now (from + j)) 16 }
 {
-    let mut found = false;
-    let mut j: usize = 0;
-    while j < BLOCK {
-        found = found | (states[from + j] == state::TAKEN);
-        j += 1;
-    }
-    found
+    (from..from + BLOCK).fold(false, |found, i| found | (states[i] == state::TAKEN))
 }
 
 // Lists the taken links from `from` to below `end`, after n that are listed; gives how many are listed then.
@@ -32,13 +26,11 @@ fn list_between(states: &[u8; 256], from: usize, end: usize, row: &mut [u8], n: 
     ensures { Listing (is_taken states.now) end result row.new }
 {
     let mut listed = n;
-    let mut i = from;
-    while i < end {
+    for i in from..end {
         if states[i] == state::TAKEN {
             row[listed] = i as u8;
             listed += 1;
         }
-        i += 1;
     }
     listed
 }
@@ -48,13 +40,13 @@ pub fn list(states: &[u8; 256], most: usize, row: &mut [u8; 256]) -> usize
     ensures { Listing (is_taken states.now) (min most 256) result row.new }
 {
     let links = links_of(most);
-    let mut n: usize = 0;
-    let mut i: usize = 0;
-    while BLOCK <= links - i {
-        if some_within(states, i) {
-            n = list_between(states, i, i + BLOCK, row, n);
+    let blocks = links / BLOCK;
+    let mut n = 0;
+    for b in 0..blocks {
+        let from = b * BLOCK;
+        if some_taken(states, from) {
+            n = list_between(states, from, from + BLOCK, row, n);
         }
-        i += BLOCK;
     }
-    list_between(states, i, links, row, n)
+    list_between(states, blocks * BLOCK, links, row, n)
 }

@@ -1,3 +1,4 @@
 pub mod Backup
 pub mod Arrays
+pub mod Arcs
 pub mod Laws

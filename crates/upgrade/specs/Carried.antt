@@ -4,8 +4,8 @@ use Rattle.mesh.specs.declared.Link.{Link}
 use Rattle.mesh.specs.declared.Mesh.{Mesh}
 use Rattle.mesh.specs.declared.Plan.{Plan}
 use Rattle.flood.specs.declared.Flood.{Flood}
-use Rattle.formed.specs.declared.Cut.{Cut}
-use Rattle.formed.specs.declared.Cut.TheVariants as cuts
+use Rattle.formed.specs.Cut.{Cut}
+use Rattle.formed.specs.Cut as cuts
 use Rattle.recovery.specs.declared.Session.{Session}
 use Rattle.recovery.specs.declared.Change.{Change}
 use Rattle.recovery.specs.Calls.{fresh_on, zero_session, cut_on, change, after_cut}

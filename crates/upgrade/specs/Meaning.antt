@@ -1,7 +1,7 @@
 -- What 02, request 3, says of a carry-over, field by field. Definitions only.
 use Rattle.std.specs.Prelude.{ℕ, ◌≡◌}
 use Rattle.mesh.specs.WellFormed.{link, duct}
-use Rattle.formed.specs.declared.Cut.TheVariants as cuts
+use Rattle.formed.specs.Cut as cuts
 use Rattle.recovery.specs.declared.Session.{Session}
 use Rattle.recovery.specs.Calls.{fresh_on, cut_on}
 use Rattle.legacy.specs.declared.OldCut.TheVariants as oldCuts

@@ -3,65 +3,22 @@
 
 ghost use Rattle.std.specs.Prelude.{◌≡◌};
 ghost use Rattle.recovery.specs.Calls.{zero_session};
-ghost use Rattle.upgrade.specs.Carried.{link_of, mesh_of, plan_of, flood_of, cut_again, carried};
+ghost use Rattle.upgrade.specs.Carried.{cut_again, carried};
 
 use flood::Flood;
-use legacy::{OldCut, OldFlood, OldLink, OldMesh, OldPlan, OldSession};
-use mesh::{Answer, Link, Mesh, Plan};
+use legacy::{OldCut, OldSession};
+use mesh::{Mesh, Plan, Reason};
 use recovery::{Change, Session};
 
-// The link of now: every field that both have.
-fn link_of(l: OldLink) -> Link
-    ensures { result ≡ link_of l }
-{
-    Link {
-        low: l.low,
-        high: l.high,
-        length: l.length,
-        pair: l.pair,
-    }
-}
-
-// The mesh of now, each of its 256 entries carried over.
-fn mesh_of(m: OldMesh) -> Mesh
-    ensures { result ≡ mesh_of m }
-{
-    let mut mesh = mesh::zero_mesh();
-    let mut i: usize = 0;
-    while i < 256 {
-        let l = m.links[i];
-        mesh.links[i] = link_of(l);
-        i += 1;
-    }
-    mesh.nodes = m.nodes;
-    mesh.count = m.count;
-    mesh
-}
-
-fn plan_of(p: OldPlan) -> Plan
-    ensures { result ≡ plan_of p }
-{
-    let directions = p.directions;
-    Plan { directions }
-}
-
-fn flood_of(f: OldFlood) -> Flood
-    ensures { result ≡ flood_of f }
-{
-    let states = f.states;
-    let reached = f.reached;
-    Flood { states, reached }
-}
-
 // What a refused start gives: a start on the all-zero mesh, which has no nodes, is refused.
+#[tactic(auto, unfolding(recovery::specs::Calls::started, formed::specs::Formed::start_answer, mesh::specs::Mesh::mesh_answer))]
 fn zero_session() -> Session
     ensures { result ≡ zero_session }
 {
     let plan = Plan {
         directions: [0u8; 256],
     };
-    let refused = Session::start(mesh::zero_mesh(), plan);
-    refused.session
+    Session::start(mesh::zero_mesh(), plan).session
 }
 
 // The session with the cut made on it that stands in an old one.
@@ -70,10 +27,7 @@ fn cut_again(s: Session, cut: OldCut) -> Session
 {
     match cut {
         OldCut::Nothing => s,
-        OldCut::Link(k) => {
-            let change = s.cut(k);
-            change.session
-        }
+        OldCut::Link(k) => s.cut(k).session,
     }
 }
 
@@ -83,13 +37,12 @@ pub fn carry_over(old: OldSession) -> Change
     ensures { result ≡ carried old }
 {
     let answer = legacy::check(old);
-    let Answer::Accepted = answer else {
+    let Ok(()) = answer else {
         let session = zero_session();
         return Change { session, answer };
     };
-    let started = Session::start(mesh_of(old.mesh), plan_of(old.plan));
-    let cut = old.cut;
-    let mut session = cut_again(started.session, cut);
-    session.first = flood_of(old.flood);
+    let started = Session::start(Mesh::from(old.mesh), Plan::from(old.plan));
+    let mut session = cut_again(started.session, old.cut);
+    session.first = Flood::from(old.flood);
     Change { session, answer }
 }

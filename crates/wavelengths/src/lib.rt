@@ -2,7 +2,7 @@
 #![tactic(auto)]
 
 ghost use Rattle.std.specs.Prelude.{◌≡◌};
-ghost use Rattle.wavelengths.specs.Wavelength.{is_wavelength, wavelength_of};
+ghost use Rattle.wavelengths.specs.Wavelength.{each, is_wavelength, wavelength_of};
 
 use flood::Flood;
 
@@ -20,7 +20,18 @@ pub struct Floods {
     pub second: Flood,
 }
 
+// What a wavelength has, of what each of the two has.
+pub fn of_wavelength<T: Copy>(wavelength: Wavelength, first: T, second: T) -> T
+    ensures { result ≡ each first second wavelength }
+{
+    match wavelength {
+        Wavelength::First => first,
+        Wavelength::Second => second,
+    }
+}
+
 // Whether a number names a wavelength: 1 or 2.
+// form: no TryFrom, since a call tests the number between two other refusals, 12 and 23, and reads it only where it is accepted.
 pub fn is_wavelength(n: u8) -> bool
     ensures { result ≡ is_wavelength n }
 {

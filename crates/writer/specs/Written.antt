@@ -1,15 +1,14 @@
 -- What a mesh is written as, and what writing it gives (01, "The book" and "Order"). Definitions only.
-use Rattle.std.specs.Prelude.{ℕ, ◌+◌, ◌*◌, List, [], ◌∷◌, ◌++◌, cond, length, take, leb}
+use Rattle.std.specs.Prelude.{ℕ, ◌+◌, ◌*◌, List, [], ◌∷◌, ◌++◌, cond, length, take, leb, Option, Some, None, Result, Ok, Err}
 use Rattle.scan.specs.Bytes.{bytes}
 use Rattle.mesh.specs.declared.Link.{Link}
 use Rattle.mesh.specs.declared.Mesh.{Mesh}
-use Rattle.mesh.specs.declared.Answer.{Answer}
-use Rattle.mesh.specs.declared.Answer.TheVariants.{Accepted, Refused}
+use Rattle.mesh.specs.declared.Reason.{Reason}
+use Rattle.mesh.specs.Answer.{Answer, Accepted}
 use Rattle.mesh.specs.Mesh.{must, and_then, output_as, zero_link, mesh_answer}
 use Rattle.fields.specs.declared.Fields.{Fields}
 use Rattle.fields.specs.Record.{as_link, longest_record, record_of}
 use Rattle.fields.specs.Entries.{entries_of}
-use Rattle.writer.specs.declared.Written.{Written}
 
 -- the version byte that is written
 abbrev pub version : ℕ
@@ -28,9 +27,9 @@ book_of m = version ∷ (m.nodes ∷ (bytes 2 m.count ++ records_of zero_link (t
 abbrev pub longest_book : ℕ
 longest_book = 4 + 256 * longest_record
 
--- 0 where `room` bytes are enough for the book of m, else how many it has
-abbrev pub lacking : Mesh → ℕ → ℕ
-lacking m room = cond (leb (length (book_of m)) room) 0 (length (book_of m))
+-- none where `room` bytes are enough for the book of m, else how many it has
+abbrev pub lacking : Mesh → ℕ → Option ℕ
+lacking m room = cond (leb (length (book_of m)) room) None (Some (length (book_of m)))
 
 -- writing m to an output of `room` bytes: the mesh checks, then 11
 unfoldable pub encode_answer : Mesh → ℕ → Answer
@@ -39,12 +38,12 @@ encode_answer m room =
     (must (leb (length (book_of m)) room) 11 (length (book_of m))
     Accepted)
 
-abbrev pub written_as : Answer → ℕ → Written
-written_as Accepted n = record { length = n; answer = Accepted }
-written_as (Refused number place) n = record { length = 0; answer = Refused number place }
+abbrev pub written_as : Answer → ℕ → Result ℕ Reason
+written_as Accepted n = Ok n
+written_as (Err r) n = Err r
 
--- the answer, with the length of the book where it was written and 0 on a refusal
-unfoldable pub written : Mesh → ℕ → Written
+-- the length of the book where it was written, else the refusal
+unfoldable pub written : Mesh → ℕ → Result ℕ Reason
 written m room = written_as (encode_answer m room) (length (book_of m))
 
 -- the output after writing m: the book, then the bytes past it as they were; on a refusal all as it was

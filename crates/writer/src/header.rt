@@ -4,7 +4,7 @@ ghost use Rattle.std.proofs.lemmas.List.Edits.{sets};
 ghost use Rattle.scan.specs.Bytes.{bytes};
 ghost use Rattle.writer.specs.Written.{version};
 
-use crate::number::put_bytes;
+use crate::number::Pen;
 
 // The version byte that is written.
 const VERSION: u8 = 1;
@@ -17,5 +17,7 @@ pub(crate) fn put_header(out: &mut [u8], nodes: u8, count: u16) -> usize
 {
     out[0] = VERSION;
     out[1] = nodes;
-    put_bytes(out, 2, 2, count as u32)
+    let mut pen = Pen { out, at: 2 };
+    pen.put_bytes(2, count as u32);
+    pen.at
 }

@@ -1,20 +1,28 @@
-// Storing numbers, low byte first.
+// Storing numbers in an output, low byte first.
 ghost use Rattle.std.specs.Prelude.{◌≡◌, ◌+◌, ◌≤◌, length};
 ghost use Rattle.std.proofs.lemmas.List.Edits.{sets};
 ghost use Rattle.scan.specs.Bytes.{bytes};
 
-// Stores the w low bytes of v from `at` on, and answers where the next byte goes.
-pub(crate) fn put_bytes(out: &mut [u8], at: usize, w: usize, v: u32) -> usize
-    requires { at + w ≤ length out.old }
-    ensures next { result ≡ at + w }
-    ensures stored { out.new ≡ sets out.old at (bytes w v) }
-{
-    let mut x = v;
-    let mut i: usize = 0;
-    while i < w {
-        out[at + i] = (x % 256) as u8;
-        x = x / 256;
-        i += 1;
+// An output, and where its next byte goes.
+#[derive(Drop)]
+pub(crate) struct Pen<'a> {
+    pub out: &'a mut [u8],
+    pub at: usize,
+}
+
+impl Pen<'_> {
+    // Stores the w low bytes of v.
+    pub(crate) fn put_bytes(&mut self, w: usize, v: u32)
+        requires { self.old.at + w ≤ length self.old.out.now }
+        ensures output { self.new.out.ghost_name ≡ self.old.out.ghost_name }
+        ensures next { self.new.at ≡ self.old.at + w }
+        ensures stored { self.new.out.now ≡ sets self.old.out.now self.old.at (bytes w v) }
+    {
+        let mut x = v;
+        for i in 0..w {
+            self.out[self.at + i] = (x % 256) as u8;
+            x /= 256;
+        }
+        self.at += w;
     }
-    at + w
 }

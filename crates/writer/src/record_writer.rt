@@ -4,7 +4,7 @@ ghost use Rattle.std.proofs.lemmas.List.Edits.{sets};
 ghost use Rattle.fields.specs.Field.{field, field_bytes};
 ghost use Rattle.fields.specs.Record.{as_fields, longest_record, record_of};
 
-use crate::number::put_bytes;
+use crate::number::Pen;
 use fields::{DUCT, Fields, HIGH, LENGTH, LOW, PAIR, bit_map, record_length};
 use mesh::Link;
 
@@ -29,16 +29,18 @@ pub(crate) fn length_of(prev: Link, f: Fields) -> usize
     record_length(bit_map(prev, f))
 }
 
-// Stores a field of w bytes at `at` unless it has its absent value, and answers where the next one goes.
-fn put_field(out: &mut [u8], at: usize, w: usize, value: u32, absent: u32) -> usize
-    requires { at + length (field_bytes (field w value absent)) ≤ length out.old }
-    ensures next { result ≡ at + length (field_bytes (field w value absent)) }
-    ensures stored { out.new ≡ sets out.old at (field_bytes (field w value absent)) }
-{
-    if value == absent {
-        return at;
+impl Pen<'_> {
+    // Stores a field of w bytes unless it has its absent value.
+    fn put_field(&mut self, w: usize, value: u32, absent: u32)
+        requires { self.old.at + length (field_bytes (field w value absent)) ≤ length self.old.out.now }
+        ensures output { self.new.out.ghost_name ≡ self.old.out.ghost_name }
+        ensures next { self.new.at ≡ self.old.at + length (field_bytes (field w value absent)) }
+        ensures stored { self.new.out.now ≡ sets self.old.out.now self.old.at (field_bytes (field w value absent)) }
+    {
+        if value != absent {
+            self.put_bytes(w, value);
+        }
     }
-    put_bytes(out, at, w, value)
 }
 
 // Stores the record of these fields after prev at the front of out, its fields and then its bit map, and answers its length.
@@ -47,12 +49,12 @@ pub(crate) fn put_record(out: &mut [u8], prev: Link, f: Fields) -> usize
     ensures next { result ≡ length (record_of prev f) }
     ensures stored { out.new ≡ sets out.old 0 (record_of prev f) }
 {
-    let a = put_field(out, 1, LOW, f.low as u32, prev.low as u32);
-    let b = put_field(out, a, HIGH, f.high as u32, f.low as u32 + 1);
-    let c = put_field(out, b, LENGTH, f.length as u32, 0);
-    let duct = f.duct as u32;
-    let d = put_field(out, c, PAIR, f.pair, 0);
-    let end = put_field(out, d, DUCT, duct, 0);
-    out[0] = bit_map(prev, f);
-    end
+    let mut pen = Pen { out, at: 1 };
+    pen.put_field(LOW, f.low as u32, prev.low as u32);
+    pen.put_field(HIGH, f.high as u32, f.low as u32 + 1);
+    pen.put_field(LENGTH, f.length as u32, 0);
+    pen.put_field(PAIR, f.pair, 0);
+    pen.put_field(DUCT, f.duct as u32, 0);
+    pen.out[0] = bit_map(prev, f);
+    pen.at
 }

@@ -7,33 +7,28 @@ use crate::record_writer::{length_of, widened};
 use mesh::{Mesh, zero_link};
 
 // How many bytes the book of m has.
-fn book_length(m: Mesh) -> usize
-    requires { m.count ≤ 256 }
-    ensures { result ≡ length (book_of m) }
+fn book_length(m: &Mesh) -> usize
+    requires { m.now.count ≤ 256 }
+    ensures { result ≡ length (book_of m.now) }
 {
-    let k = m.count as usize;
     let mut prev = zero_link();
     let mut n: usize = 4;
-    let mut i: usize = 0;
-    while i < k {
+    for i in 0..m.count as usize {
         let l = m.links[i];
         n += length_of(prev, widened(l, m.ducts[i]));
         prev = l;
-        i += 1;
     }
     n
 }
 
-// 0 where `room` bytes are enough for the book of m, else how many it has. They are counted only where the longest book would not fit.
-pub(crate) fn lacking(m: Mesh, room: usize) -> usize
-    requires { m.count ≤ 256 }
-    ensures { result ≡ Rattle.writer.specs.Written.lacking m room }
+// How many bytes the book of m has where `room` bytes are not enough for it. They are counted only where the longest book would not fit.
+pub(crate) fn lacking(m: &Mesh, room: usize) -> Option<usize>
+    requires { m.now.count ≤ 256 }
+    ensures { result ≡ Rattle.writer.specs.Written.lacking m.now room }
 {
-    if room < LONGEST_BOOK {
-        let length = book_length(m);
-        if room < length {
-            return length;
-        }
+    if LONGEST_BOOK <= room {
+        return None;
     }
-    0
+    let length = book_length(m);
+    if room < length { Some(length) } else { None }
 }

@@ -1,5 +1,5 @@
 -- What a survey says of the walks of a mesh that passes the checks, and that planning's answer follows from it. Assumes nothing.
-use Rattle.std.specs.Prelude.{ℕ, ◌<◌, ◌≤◌, ◌≡◌, ◌↔◌, Bool, true, false, not, eqb}
+use Rattle.std.specs.Prelude.{ℕ, ◌<◌, ◌≤◌, ◌≡◌, ◌↔◌, Bool, true, false, not, eqb, Err}
 use Rattle.std.proofs.Math.Path.{refl}
 use Rattle.std.proofs.Common.{sym, ◌∙◌, ap, ⊎_elim}
 use Rattle.std.proofs.Math.Logic.Iff
@@ -21,8 +21,7 @@ use Rattle.graph.specs.Laws.Reached.{reaches_iff}
 use Rattle.graph.specs.Laws.Bridge.{bridge-parts}
 use Rattle.graph.specs.Laws.Refusal.{unreached_says, all-reached, parts_says}
 use Rattle.mesh.specs.declared.Mesh.{Mesh}
-use Rattle.mesh.specs.declared.Answer.{Answer}
-use Rattle.mesh.specs.declared.Answer.TheVariants.{Accepted, Refused}
+use Rattle.mesh.specs.Answer.{Answer, Accepted, Refused}
 use Rattle.mesh.specs.Mesh.{mesh_answer}
 use Rattle.mesh.specs.Laws.Checked.{passes}
 use Rattle.nets.specs.Nets.{net_of}
@@ -187,7 +186,7 @@ module _ (m : Mesh) where
     where
       by_answer : (a : Answer) (parts bridges : List ℕ) → (surveyed_as a parts bridges).answer ≡ a
       by_answer Accepted parts bridges = refl
-      by_answer (Refused number place) parts bridges = refl
+      by_answer (Err r) parts bridges = refl
 
   -- and then gives all zeros
   pub survey_refused : {number place : ℕ} → mesh_answer m ≡ Refused number place
@@ -199,4 +198,4 @@ module _ (m : Mesh) where
     where
       by_checks : (a : Answer) → mesh_answer m ≡ a → plan_answer m ≡ verdict m (surveyed m)
       by_checks Accepted e = accepted-verdict m e
-      by_checks (Refused number place) e = answer_unchecked m e ∙ sym (rw (survey_answer_lem, e))
+      by_checks (Err r) e = answer_unchecked m e ∙ sym (rw (survey_answer_lem, e))

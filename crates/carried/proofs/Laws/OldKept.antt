@@ -1,6 +1,6 @@
 -- What every old call keeps: the session that a carry-over makes of the old one is as the calls of now keep it, with the deliveries of the old log on
 -- wavelength 1. An old cut is the cut of now on that session, and old deliveries are deliveries on its wavelength 1. Assumes nothing.
-use Rattle.std.specs.Prelude.{ℕ, ◌<◌, ◌≡◌, true, false, not, ltb, length}
+use Rattle.std.specs.Prelude.{ℕ, ◌<◌, ◌≡◌, true, false, not, ltb, length, Err}
 use Rattle.std.proofs.Math.Path.{refl, subst}
 use Rattle.std.proofs.Common.{sym, ap, subst₂, ◌∙◌, ltb-true}
 use mathlib.Core.List.{List, [], ◌∷◌, ◌++◌, map-append}
@@ -10,8 +10,7 @@ use Rattle.scan.specs.Entry.{at}
 use Rattle.scan.specs.Test.{clash}
 use Rattle.mesh.specs.declared.Mesh.{Mesh}
 use Rattle.mesh.specs.declared.Plan.{Plan}
-use Rattle.mesh.specs.declared.Answer.{Answer}
-use Rattle.mesh.specs.declared.Answer.TheVariants.{Accepted, Refused}
+use Rattle.mesh.specs.Answer.{Answer, Accepted, Refused}
 use Rattle.mesh.specs.Laws.Answer.{must-accepted, and_then-accepted}
 use Rattle.flood.specs.Digraph.{Digraph, Failure}
 use Rattle.flood.specs.Digraph as failures
@@ -21,7 +20,7 @@ use Rattle.wavelengths.specs.declared.Wavelength.{Wavelength}
 use Rattle.wavelengths.specs.declared.Wavelength.TheVariants.{First, Second}
 use Rattle.wavelengths.specs.Merge.{Turn, turn, turns_on, begin, play, accepted}
 use Rattle.wavelengths.proofs.Laws.Project.{play-turns, accepted-turns}
-use Rattle.formed.specs.declared.Cut.TheVariants.{Link}
+use Rattle.formed.specs.Cut.{Link}
 use Rattle.recovery.specs.declared.Session.{Session}
 use Rattle.recovery.specs.Session.{floods}
 use Rattle.recovery.specs.Calls.{digraph, failure, failure_of, with_floods, cut_on}
@@ -135,7 +134,7 @@ module _ (m : Mesh) (p : Plan) where
       where
         by_answer : (a : Answer) → old.answer c s ≡ a → OldKept (old.changed a s (old.effect c s)) (oldLists.note a c s l)
         by_answer Accepted e = accepted-kept c e
-        by_answer (Refused number place) e = K
+        by_answer (Err r) e = K
 
   -- any list of calls
   pub calls-kept : (cs : List Call) (s : OldSession) (l : oldLists.Log) → OldKept s l → OldKept (oldLists.after cs s) (oldLists.logged cs s l)

@@ -1,10 +1,9 @@
 -- After any old calls from a fresh old session on a planned mesh the carry-over is accepted, and its session is as the calls of now keep it. Assumes the
 -- ranges of the old mesh's fields, which its types ensure.
-use Rattle.std.specs.Prelude.{◌≡◌, refl, List, [], ◌∷◌}
+use Rattle.std.specs.Prelude.{◌≡◌, refl, List, [], ◌∷◌, Err}
 use Rattle.std.proofs.Common.{subst, sym, ◌∙◌}
 use Rattle.mesh.specs.declared.Plan.{Plan}
-use Rattle.mesh.specs.declared.Answer.{Answer}
-use Rattle.mesh.specs.declared.Answer.TheVariants.{Accepted, Refused}
+use Rattle.mesh.specs.Answer.{Answer, Accepted, Refused}
 use Rattle.planner.specs.Plan.{planned}
 use Rattle.legacy.specs.declared.OldMesh.{OldMesh}
 use Rattle.legacy.specs.declared.OldSession.{OldSession}
@@ -36,7 +35,7 @@ next-mesh c s = by_answer (old.answer c s)
   where
     by_answer : (a : Answer) → (old.changed a s (old.effect c s)).mesh ≡ s.mesh
     by_answer Accepted = effect-mesh c s
-    by_answer (Refused number place) = refl
+    by_answer (Err r) = refl
 
 after-mesh : (cs : List old.Call) (s : OldSession) → (oldLists.after cs s).mesh ≡ s.mesh
 unfolding oldLists.after

@@ -1,47 +1,36 @@
 -- `changes::cut` meets its contract: refused, the floods stay; accepted, a flood begins on the back-up digraph of each wavelength.
-use mathlib.Core.Path.{◌≡◌, sym, ap, ◌∙◌}
-use Rattle.mesh.specs.declared.Answer.{Answer}
-use Rattle.flood.specs.Digraph.{cut}
-use Rattle.flood.specs.Lent.{flood}
-use Rattle.wavelengths.specs.declared.Floods.{Floods}
+use mathlib.Core.Path.{◌≡◌, sym, ◌∙◌}
+use Rattle.std.proofs.Common.{rules}
+use Rattle.mesh.specs.Answer.{Accepted}
 use Rattle.wavelengths.specs.Wavelength.{pair}
-use Rattle.wavelengths.specs.Merge.{begin}
 use Rattle.wavelengths.proofs.Laws.Project.{begin_known}
-use Rattle.refusals.specs.Refusals as refusals
-use Rattle.pieces.specs.Pieces.{chosen, digraph, tested}
-use Rattle.pieces.specs.Laws.Tested.{tested_is, given_cut}
+use Rattle.refusals.specs.Refusals.{cut_answer}
+use Rattle.pieces.specs.Pieces.{digraph, tested}
+use Rattle.pieces.specs.Laws.Tested.{given_cut}
 use Rattle.changes.proofs.cut.Goals as goal
-use Rattle.changes.proofs.cut.Goals.{After-cut_answer-answer, Start}
+use Rattle.changes.proofs.cut.Goals.{After-cut_answer}
 
--- the floods that are lent
-abbrev lent : Start → Floods
-lent s = let a = s.args in pair (flood a.states1.now a.reached1.now) (flood a.states2.now a.reached2.now)
+answered : (c : After-cut_answer) → let a = c.args in
+    c.cut_answer.result ≡ cut_answer (tested a.mesh a.directions.now a.before (pair a.first.now a.second.now)) a.mesh.count a.before a.link
+answered c = rw c.take_apart-tested.ensures.answer at c.cut_answer.ensures
 
--- the answer is that of the pieces
-answered : (c : After-cut_answer-answer)
-    → let a = c.args in
-    c.cut_answer-answer.result ≡ refusals.cut_answer (tested a.mesh a.directions.now a.before (lent c.before.before.before.before.before)) a.mesh.count a.before a.link
-answered c =
-    let a = c.args in
-    c.cut_answer-answer.ensures
-    ∙ ap (λ (t : Answer). refusals.cut_answer t a.mesh.count a.before a.link)
-    (tested_is a.mesh _ _ (c.split-zeros.ensures.rest, (c.split-zeros.ensures.ends, c.split-zeros.ensures.ranges)) _ a.before (lent c.before.before.before.before.before) c.record_answer-tested.ensures)
-
--- what becomes of the floods, by an answer
-abbrev left_by : (s : Start) → Answer → Floods
-left_by s r = let a = s.args in let g = digraph a.mesh a.directions.now in chosen r (lent s) (begin g (λ w. cut (g w) a.link) (lent s))
-
-pub returns-in_default : goal.returns-in_default
-returns-in_default c = record { answer = answered c.before; floods = sym (ap (left_by c.before.before.before.before.before.before) c.in_default.is) }
+pub returns-in_err-cut_answer : goal.returns-in_err-cut_answer
+returns-in_err-cut_answer c =
+    let same : c.from_residual.result ≡ c.cut_answer.result = search rules in
+    record {
+      answer = same ∙ answered (goal.at.returns-in_err-cut_answer c).After-cut_answer;
+      floods = rw (same, c.in_err-cut_answer.was);
+    }
 
 pub returns : goal.returns
 returns c =
     let a = c.args in
-    let t = c.in-Accepted.is in
-    let given = given_cut a.mesh _ _ (c.split-zeros.ensures.rest, (c.split-zeros.ensures.ends, c.split-zeros.ensures.ranges)) a.directions.now a.before (lent c.before.before.before.before.before.before.before.before.before.before.before.before.before.before) a.link (sym (answered c.before.before.before.before.before.before.before.before.before) ∙ t) in
+    let f = pair a.first.now a.second.now in
+    let p = c.take_apart-tested.ensures in
+    let accepts : cut_answer (tested a.mesh a.directions.now a.before f) a.mesh.count a.before a.link ≡ Accepted
+    = sym (answered (goal.at.returns c).After-cut_answer) ∙ c.in_ok-cut_answer.was in
+    let given = given_cut a.mesh _ p.ends p.ranges a.directions.now a.before f a.link accepts in
     record {
-      answer = answered c.before.before.before.before.before.before.before.before.before;
-      floods =
-          begin_known (digraph a.mesh a.directions.now) _ (lent c.before.before.before.before.before.before.before.before.before.before.before.before.before.before) (c.begin.ensures a.mesh given) (c.begin-2.ensures a.mesh given)
-          ∙ sym (ap (left_by c.before.before.before.before.before.before.before.before.before.before.before.before.before.before) t);
+      answer = sym accepts;
+      floods = begin_known (digraph a.mesh a.directions.now) _ f (c.begin.ensures a.mesh given) (c.begin-2.ensures a.mesh given);
     }

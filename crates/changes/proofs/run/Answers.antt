@@ -1,44 +1,37 @@
 -- `changes::run` meets its contract: refused, the floods stay; accepted, the run is that on the back-up digraphs of both wavelengths.
-use mathlib.Core.Path.{◌≡◌, refl, sym, ap, ◌∙◌}
-use Rattle.mesh.specs.declared.Answer.{Answer}
-use Rattle.mesh.specs.Laws.Answer.{refused-accepted}
-use Rattle.flood.specs.Lent.{flood}
-use Rattle.wavelengths.specs.declared.Floods.{Floods}
+use mathlib.Core.Path.{◌≡◌, sym, ◌∙◌}
+use Rattle.std.specs.Prelude.{Ok, Err}
+use Rattle.std.proofs.Common.{rules}
+use Rattle.mesh.specs.Answer.{Accepted}
 use Rattle.wavelengths.specs.Wavelength.{pair}
-use Rattle.refusals.specs.Refusals as refusals
+use Rattle.refusals.specs.Refusals.{run_answer}
 use Rattle.refusals.proofs.Laws.Tested.{run-accepted}
 use Rattle.pieces.specs.Pieces.{tested}
-use Rattle.pieces.specs.Laws.Tested.{tested_is, given_standing}
+use Rattle.pieces.specs.Laws.Tested.{given_standing}
 use Rattle.changes.proofs.run.Goals as goal
-use Rattle.changes.proofs.run.Goals.{After-run_answer-answer, Start}
+use Rattle.changes.proofs.run.Goals.{After-run_answer}
 
--- the floods that are lent
-abbrev lent : Start → Floods
-lent s = let a = s.args in pair (flood a.states1.now a.reached1.now) (flood a.states2.now a.reached2.now)
+answered : (c : After-run_answer) → let a = c.args in
+    c.run_answer.result ≡ run_answer (tested a.mesh a.directions.now a.cut (pair a.first.now a.second.now)) a.cut
+answered c = rw c.take_apart-tested.ensures.answer at c.run_answer.ensures
 
--- the answer to the record
-abbrev record_of : Start → Answer
-record_of s = let a = s.args in tested a.mesh a.directions.now a.cut (lent s)
-
--- the answer is that of the pieces
-answered : (c : After-run_answer-answer) → c.run_answer-answer.result ≡ refusals.run_answer (record_of c.before.before.before.before.before) c.args.cut
-answered c =
-    let a = c.args in
-    c.run_answer-answer.ensures
-    ∙ ap (λ (t : Answer). refusals.run_answer t a.cut) (tested_is a.mesh _ _ (c.split-zeros.ensures.rest, (c.split-zeros.ensures.ends, c.split-zeros.ensures.ranges)) _ a.cut (lent c.before.before.before.before.before) c.record_answer-tested.ensures)
-
-pub returns-in_default : goal.returns-in_default
-returns-in_default c = record { answer = answered c.before; stays = λ e. refl; zeros = λ e. (refl, refl); ended = λ e. refused-accepted (sym c.in_default.is ∙ e) }
+pub returns-in_err-run_answer : goal.returns-in_err-run_answer
+returns-in_err-run_answer c =
+    let same : c.from_residual.result ≡ Err c.in_err-run_answer.field-0.0 = search rules in
+    let refused = sym (answered (goal.at.returns-in_err-run_answer c).After-run_answer) ∙ c.in_err-run_answer.was in
+    record { outcome = rw (same, refused); floods = rw (refused) }
 
 pub returns : goal.returns
 returns c =
     let a = c.args in
-    let t = c.in-Accepted.is in
-    let (r, stands) = run-accepted (record_of c.before.before.before.before.before.before.before.before.before.before.before.before.before) a.cut (sym (answered c.before.before.before.before.before.before.before.before) ∙ t) in
-    let given = given_standing a.mesh _ _ (c.split-zeros.ensures.rest, (c.split-zeros.ensures.ends, c.split-zeros.ensures.ranges)) a.directions.now a.cut (lent c.before.before.before.before.before.before.before.before.before.before.before.before.before) r stands in
+    let f = pair a.first.now a.second.now in
+    let p = c.take_apart-tested.ensures in
+    let accepts : run_answer (tested a.mesh a.directions.now a.cut f) a.cut ≡ Accepted
+    = sym (answered (goal.at.returns c).After-run_answer) ∙ c.in_ok-run_answer.was in
+    let (r, stands) = run-accepted (tested a.mesh a.directions.now a.cut f) a.cut accepts in
+    let given = given_standing a.mesh _ p.ends p.ranges a.directions.now a.cut f r stands in
+    let ended = (rw c.cut_link.ensures at c.run.ensures) a.mesh given in
     record {
-      answer = answered c.before.before.before.before.before.before.before.before;
-      stays = λ e. refused-accepted (sym e ∙ t);
-      zeros = λ e. refused-accepted (sym e ∙ t);
-      ended = λ e. (rw c.cut_link.ensures at c.run-o.ensures) a.mesh given;
+      outcome = rw (accepts) (λ i. Ok (record { made = (ended.same i).made; rest = ended.rests i }));
+      floods = rw (accepts) (λ i. (ended.same i).floods);
     }

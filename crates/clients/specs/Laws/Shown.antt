@@ -9,11 +9,11 @@ use Rattle.flood.specs.Machine.{fresh, weight}
 use Rattle.flood.specs.Topology.{had_of}
 use Rattle.wavelengths.specs.declared.Wavelength.TheVariants.{First}
 use Rattle.mesh.specs.declared.Mesh.{Mesh}
-use Rattle.mesh.specs.declared.Answer.TheVariants.{Accepted}
+use Rattle.mesh.specs.Answer.{Accepted}
 use Rattle.mesh.specs.WellFormed.{InRange}
-use Rattle.formed.specs.declared.Cut.TheVariants.{Link}
+use Rattle.formed.specs.Cut.{Link}
 use Rattle.planner.specs.Plan.{planned}
-use Rattle.recovery.specs.declared.Report.TheVariants as report
+use Rattle.recovery.specs.Answers as outcomes
 use Rattle.recovery.specs.declared.Session.{Session}
 use Rattle.recovery.specs.Laws.Forming.{record_few}
 use Rattle.history.specs.History.{Call, by_value, cut, answers}
@@ -68,6 +68,6 @@ module _ (m : Mesh) (ranges : InRange m) (accepted : (planned m).answer ≡ Acce
     own-run = own-deliveries ∙ cut-run-made m ranges.entries accepted k below 4294967295 enough First
 
     -- and the run reports that nothing is under way on either wavelength
-    pub comes_to_rest : (n : ℕ) × ((recovered (started_on m) k).report ≡ report.Made n true)
+    pub comes_to_rest : (n : ℕ) × ((recovered (started_on m) k).report ≡ outcomes.Made n true)
     unfolding recovered
     comes_to_rest = reports_rest m ranges.entries accepted (cut by_value k ∷ []) k cut_stands 4294967295 enough

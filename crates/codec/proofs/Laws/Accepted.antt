@@ -1,9 +1,9 @@
 -- What an accepted book has. Assumes nothing.
-use Rattle.std.specs.Prelude.{ℕ, suc, ◌+◌, ◌≡◌, refl, List, length, get_or, drop}
+use Rattle.std.specs.Prelude.{ℕ, suc, ◌+◌, ◌≡◌, refl, List, length, get_or, drop, Err}
 use Rattle.std.proofs.Common.{sym, ◌∙◌}
 use Rattle.scan.specs.Bytes.{number}
 use Rattle.mesh.specs.declared.Link.{Link}
-use Rattle.mesh.specs.declared.Answer.TheVariants.{Accepted, Refused}
+use Rattle.mesh.specs.Answer.{Accepted}
 use Rattle.mesh.specs.Mesh.{zero_link}
 use Rattle.mesh.specs.Laws.Answer.{and_then-accepted}
 use Rattle.fields.specs.Record.{as_link, fields_at, record_length, record_answer}
@@ -30,7 +30,7 @@ book-accepted s e = let (header, rest) = and_then-accepted (header_answer s) _ e
 
 pub decoded-answer : (s : List ℕ) → (decoded s).answer ≡ book_answer s
 unfolding decoded
-decoded-answer s = elim (book_answer s) as (λ a. (decoded_as a (mesh_of s)).answer ≡ a) [ Accepted ↦ refl | Refused refusal place ↦ refl ]
+decoded-answer s = elim (book_answer s) as (λ a. (decoded_as a (mesh_of s)).answer ≡ a) [ Accepted ↦ refl | Err _ ↦ refl ]
 
 -- an accepted book is read, and its mesh is given
 pub decoded-mesh : (s : List ℕ) → (decoded s).answer ≡ Accepted

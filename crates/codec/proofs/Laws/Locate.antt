@@ -1,18 +1,20 @@
 -- Where records start in an accepted book. Serves the proofs of `record_start` and `find_record`. Assumes nothing.
-use Rattle.std.specs.Prelude.{ℕ, zero, suc, ◌+◌, ◌-◌, ◌≤◌, ◌<◌, ◌≡◌, List, ltb, length, get_or, drop}
+use Rattle.std.specs.Prelude.{ℕ, zero, suc, ◌+◌, ◌-◌, ◌≤◌, ◌<◌, ◌≡◌, List, ltb, length, get_or, drop, Ok, Err}
 use Rattle.std.proofs.Math.Path.{refl}
-use Rattle.std.proofs.Common.{add-one, arith, length-drop, drop-drop}
+use Rattle.std.proofs.Common.{sym, ap, ◌∙◌, add-one, arith, length-drop, drop-drop}
 use borrow.Author.Tests.{ltb-true, lt-ltb, le-ltb}
 use Rattle.scan.specs.Part.{front}
 use Rattle.scan.specs.Bytes.{number}
 use Rattle.mesh.specs.declared.Link.{Link}
-use Rattle.mesh.specs.declared.Answer.TheVariants.{Accepted, Refused}
+use Rattle.mesh.specs.declared.Reason.{Reason}
+use Rattle.mesh.specs.Answer.{Accepted, Refused}
 use Rattle.mesh.specs.Mesh.{zero_link}
 use Rattle.mesh.specs.Laws.Answer.{must-accepted, and_then-accepted}
 use Rattle.codec.specs.declared.locate.Span.{Span}
+use Rattle.reader.specs.Read.{answer_of}
 use Rattle.fields.specs.Record.{as_link, fields_at, record_length}
-use Rattle.codec.specs.Book.{span_as, records_answer, book_answer, mesh_of, decoded, record_start, span_answer, span_of}
-use Rattle.codec.proofs.Laws.Accepted.{records_accepted, book-accepted, decoded-mesh}
+use Rattle.codec.specs.Book.{given_as, records_answer, book_answer, mesh_of, record_start, span_answer, span_of, span_given}
+use Rattle.codec.proofs.Laws.Accepted.{records_accepted, book-accepted}
 use Rattle.fields.specs.Laws.Record.{GoodRecord}
 use Rattle.codec.proofs.Laws.Reading.{left-next}
 
@@ -82,13 +84,13 @@ start_first s = refl
 -- ---- the answers
 
 -- the links of a book that is read
-pub decoded-count : (s : List ℕ) → (decoded s).answer ≡ Accepted → (decoded s).mesh.count ≡ number 2 s 2
+pub mesh_of-count : (s : List ℕ) → (mesh_of s).count ≡ number 2 s 2
 unfolding mesh_of
-decoded-count s e = rw (decoded-mesh s e).1
+mesh_of-count s = refl
 
 module _ (s : List ℕ) (k : ℕ) where
   -- reading is refused, there is no such link, or there is
-  pub span-unread : {refusal place : ℕ} → book_answer s ≡ Refused refusal place → span_answer s k ≡ Refused refusal place
+  pub span-unread : {r : Reason} → book_answer s ≡ Err r → span_answer s k ≡ Err r
   unfolding span_answer
   span-unread e = rw e
 
@@ -100,18 +102,34 @@ module _ (s : List ℕ) (k : ℕ) where
   unfolding span_answer
   span-some e h = rw (e, lt-ltb _ _ h)
 
-  -- the span of a refusal, and of a record
-  pub span-refused : (r : Span) {refusal place : ℕ} → span_answer s k ≡ Refused refusal place
-      → r.start ≡ 0 → r.end ≡ 0 → r.answer ≡ Refused refusal place → r ≡ span_of s k
-  unfolding span_of
-  span-refused r e a b d = rw e (λ j. record { start = a j; end = b j; answer = d j })
+  -- what finding gives of a refusal, and of a record
+  pub span-refused : {r : Reason} → span_answer s k ≡ Err r → Err r ≡ span_given s k
+  unfolding span_given
+  span-refused e = rw e
 
   pub span_found : (start : ℕ) → span_answer s k ≡ Accepted → start ≡ record_start s k
-      → record { start = start; end = start + record_length (get_or s start 0); answer = Accepted } ≡ span_of s k
-  unfolding span_of
+      → Ok (record { start = start; end = start + record_length (get_or s start 0) }) ≡ span_given s k
+  unfolding span_given span_of
   span_found start e q = rw (e, q)
 
-  -- the answer of a span
-  pub span-answer : (span_of s k).answer ≡ span_answer s k
+  -- its answer
+  pub span-answer : answer_of (span_given s k) ≡ span_answer s k
+  unfolding span_given
+  span-answer = elim (span_answer s k) as (λ a. answer_of (given_as a (span_of s k)) ≡ a) [ Accepted ↦ refl | Err _ ↦ refl ]
+
+  -- a span that is given lies within the book
+  pub span_told : {p : Span} → Ok p ≡ span_given s k → (p ≡ span_of s k) × (p.start ≤ p.end) × (p.end ≤ length s)
   unfolding span_of
-  span-answer = elim (span_answer s k) as (λ a. (span_as a (record_start s k) (record_length (get_or s (record_start s k) 0))).answer ≡ a) [ Accepted ↦ refl | Refused refusal place ↦ refl ]
+  span_told {p} e =
+      let ok : span_answer s k ≡ Accepted = sym span-answer ∙ ap answer_of (sym e) in
+      let start = record_start s k in
+      let there : Span = record { start = start; end = start + record_length (get_or s start 0) } in
+      let both : Ok p ≡ Ok there = e ∙ sym (span_found start ok refl) in
+      let same : p ≡ there = cc in
+      let whole = (start_within s k ok k (omega arith)).1 in
+      (same ∙ rw ok, rw same (omega arith), rw same whole)
+
+  -- the empty span where none is given
+  pub span_empty : {r : Reason} → Err r ≡ span_given s k → span_of s k ≡ record { start = 0; end = 0 }
+  unfolding span_of
+  span_empty {r} e = let refused : span_answer s k ≡ Err r = sym span-answer ∙ ap answer_of (sym e) in rw refused

@@ -1,6 +1,6 @@
 -- What stands after more bytes than any book has changes nothing that is read: at most 256 records are looked at, each no longer than the longest, and bytes
 -- are left after the last one either way. Assumes nothing.
-use Rattle.std.specs.Prelude.{ℕ, zero, suc, ◌+◌, ◌*◌, ◌≤◌, ◌<◌, ◌≡◌, List, ◌++◌, get_or, take, drop}
+use Rattle.std.specs.Prelude.{ℕ, zero, suc, ◌+◌, ◌*◌, ◌≤◌, ◌<◌, ◌≡◌, List, ◌++◌, get_or, take, drop, Err}
 use Rattle.std.proofs.Math.Path.{refl}
 use Rattle.std.proofs.Common.{sym, arith, length-append, length-drop, take-append-drop, length-take-le, take_all}
 use Rattle.std.proofs.Math.Decide.{dec_le}
@@ -9,8 +9,7 @@ use Rattle.std.proofs.Math.ListN.{length, get_or-append}
 use Rattle.std.proofs.Math.Seq.{drop-append-le}
 use Rattle.scan.specs.Bytes.{number, number_append}
 use Rattle.mesh.specs.declared.Link.{Link}
-use Rattle.mesh.specs.declared.Answer.{Answer}
-use Rattle.mesh.specs.declared.Answer.TheVariants.{Accepted, Refused}
+use Rattle.mesh.specs.Answer.{Answer, Accepted}
 use Rattle.mesh.specs.Mesh.{zero_link}
 use Rattle.fields.specs.Record.{as_link, longest_record, record_length, fields_at}
 use Rattle.codec.specs.Book.{longest_book, header_answer, records_answer, fields_from, book_answer, mesh_of, decoded}
@@ -54,7 +53,7 @@ module _ (s more : List ℕ) (h : longest_book < length s) where
   decoded-append = go (header_answer s) refl
     where
       go : (a : Answer) → header_answer s ≡ a → decoded (s ++ more) ≡ decoded s
-      go (Refused refusal place) e = rw (header_append, e)
+      go (Err r) e = rw (header_append, e)
       go Accepted e =
           let k = number 2 s 2 in
           let few = leb-true k 256 (header_accepted s e).count in

@@ -1,5 +1,5 @@
--- What the reader's loop keeps, and what each of its turns and ways out makes of it. Serves the proof of `read_records`. Assumes nothing.
-use Rattle.std.specs.Prelude.{ℕ, suc, ◌+◌, ◌-◌, ◌≤◌, ◌<◌, ◌≡◌, List, [], ◌∷◌, ◌++◌, Bool, true, length, get_or, drop, set}
+-- What the reader's loop keeps, and what each of its turns and ways out makes of it. Serves the proof of `read_into`. Assumes nothing.
+use Rattle.std.specs.Prelude.{ℕ, suc, ◌+◌, ◌-◌, ◌≤◌, ◌<◌, ◌≡◌, List, [], ◌∷◌, ◌++◌, Bool, length, get_or, drop, set, Err}
 use Rattle.std.proofs.Math.Path.{refl, sym}
 use Rattle.std.proofs.Common.{◌∙◌, ap, append_assoc, append-nil, add-one, arith, take-append-drop, length-set, take-suc-set, drop-set-lt}
 use borrow.Author.Tests.{leb-true, le-leb}
@@ -10,19 +10,17 @@ use Rattle.scan.specs.Bytes.{number}
 use Rattle.scan.specs.Test.{eq_says, says_same}
 use Rattle.mesh.specs.declared.Link.{Link}
 use Rattle.mesh.specs.declared.Mesh.{Mesh}
-use Rattle.mesh.specs.declared.Answer.{Answer}
-use Rattle.mesh.specs.declared.Answer.TheVariants.{Accepted, Refused}
-use Rattle.mesh.specs.Mesh.{must, and_then, refuses, zero_link, zero_mesh}
-use Rattle.mesh.specs.Laws.Answer.{and_then-accepted}
+use Rattle.mesh.specs.declared.Reason.{Reason}
+use Rattle.mesh.specs.Answer.{Answer, Accepted}
+use Rattle.mesh.specs.Mesh.{must, zero_link, zero_mesh}
 use Rattle.fields.specs.declared.Fields.{Fields}
 use Rattle.fields.specs.Record.{as_link, zero_fields, record_length, fields_at, record_answer}
 use Rattle.fields.specs.Entries.{entries_of}
 use Rattle.fields.specs.Laws.Entries.{Even, zero-joined, set_joined, mesh-entries, length-entries}
-use Rattle.codec.specs.Book.{header_answer, records_answer, fields_from, book_answer, mesh_of, decoded}
+use Rattle.codec.specs.Book.{header_answer, records_answer, fields_from, book_answer, mesh_of}
 use Rattle.fields.specs.Laws.Record.{record_accepted}
-use Rattle.reader.specs.declared.Header.{Header}
-use Rattle.reader.specs.Read.{header_read}
-use Rattle.reader.specs.Laws.Header.{header_answer_lem, header_read_lem}
+use Rattle.reader.specs.declared.Record.{Record}
+use Rattle.reader.specs.Laws.Read.{there}
 
 -- a turn's record is left, or none
 pub left-next : (k i : ℕ) → i < k → k - i ≡ suc (k - (i + 1))
@@ -35,7 +33,7 @@ left-all : (k : ℕ) → k - 0 ≡ k
 left-all k = omega arith
 
 -- the records from the header on of the book s, which says n nodes and k links
-abbrev all_records : List ℕ → ℕ → ℕ → Answer
+abbrev pub all_records : List ℕ → ℕ → ℕ → Answer
 all_records s n k = records_answer n (length s) zero_link 4 k (drop 4 s)
 
 -- i of k records are read into m, the last link is prev, and the next record stands at `at`
@@ -73,8 +71,7 @@ module _ (s : List ℕ) (n k : ℕ) (m : Mesh) (prev : Link) (at i : ℕ) (R : R
   entries = length-entries m even ∙ R.links
 
   -- a refused record
-  reading_refused : i < k → {number place : ℕ} → record_answer n (length s) prev at (drop at s) ≡ Refused number place
-      → all_records s n k ≡ Refused number place
+  pub reading_refused : i < k → {r : Reason} → record_answer n (length s) prev at (drop at s) ≡ Err r → all_records s n k ≡ Err r
   unfolding records_answer
   reading_refused h e = R.answer ∙ rw (left-next k i h, e)
 
@@ -125,12 +122,12 @@ module _ (s : List ℕ) (n k : ℕ) (m : Mesh) (prev : Link) (at i : ℕ) (R : R
       fields = fields-next ∙ rw entries-stored;
     }
 
-    pub reading_turn : {l : Link} {d w : ℕ} → l ≡ as_link next → d ≡ next.duct → w ≡ size
-        → Reading s n k (record { nodes = m.nodes; count = m.count; links = set m.links i l; ducts = set m.ducts i d }) l (at + w) (i + 1)
-    reading_turn e f g = rw (e, f, g) reading_next
+    pub reading_turn : {r : Record} → r ≡ there n (length s) prev at (drop at s)
+        → Reading s n k (record { nodes = m.nodes; count = m.count; links = set m.links i r.link; ducts = set m.ducts i r.duct }) r.link (at + r.length) (i + 1)
+    reading_turn e = rw e reading_next
 
   -- after the last record: 10 where bytes are left
-  reading_over : k ≤ i → must (leb (length s) at) 10 at Accepted ≡ all_records s n k
+  pub reading_over : k ≤ i → must (leb (length s) at) 10 at Accepted ≡ all_records s n k
   unfolding records_answer
   reading_over h = sym (R.answer ∙ rw (left_none k i h, length-drop at s) (ap (λ (t : Bool). must t 10 at Accepted) left))
     where
@@ -138,7 +135,7 @@ module _ (s : List ℕ) (n k : ℕ) (m : Mesh) (prev : Link) (at i : ℕ) (R : R
       left = says_same (eq_says (length s - at) 0) (λ t. omega (arith, leb-true (length s) at t), λ q. le-leb (length s) at (omega arith))
 
   -- the mesh is then the book's
-  reading_mesh : k ≤ i → n ≡ get_or s 1 0 → k ≡ number 2 s 2 → m ≡ mesh_of s
+  pub reading_mesh : k ≤ i → n ≡ get_or s 1 0 → k ≡ number 2 s 2 → m ≡ mesh_of s
   unfolding mesh_of fields_from
   reading_mesh h en ek =
       let e : i ≡ k = omega (arith, R.some) in
@@ -147,77 +144,15 @@ module _ (s : List ℕ) (n k : ℕ) (m : Mesh) (prev : Link) (at i : ℕ) (R : R
       = sym (take-append-drop i (entries_of m)) ∙ rw (front, R.rest, e) in
       sym (mesh-entries m even) ∙ rw (all, R.nodes ∙ en, R.count, ek)
 
--- ---- the header
-
-module _ (s : List ℕ) {n k : ℕ} {a : Answer} (en : n ≡ (header_read s).nodes) (ek : k ≡ (header_read s).count) (ea : a ≡ (header_read s).answer) where
-  -- one that is accepted says these numbers
-  pub header_good : a ≡ Accepted → (header_answer s ≡ Accepted) × (n ≡ get_or s 1 0) × (k ≡ number 2 s 2)
-  header_good e =
-      let ok = sym (header_answer_lem s) ∙ sym ea ∙ e in
-      let r = header_read_lem s ok in
-      (ok, en ∙ ap (λ (h : Header). h.nodes) r, ek ∙ ap (λ (h : Header). h.count) r)
-
-  -- one that is refused says no link
-  pub header_some : 0 < k → a ≡ Accepted
-  unfolding header_read
-  header_some h = go (header_answer s) refl
-    where
-      go : (b : Answer) → header_answer s ≡ b → a ≡ Accepted
-      go Accepted e = ea ∙ rw e
-      go (Refused number place) e = let z : k ≡ 0 = ek ∙ rw e in absurd (omega arith)
-
--- what the loop keeps: the answer is the header's, and where that accepts, i records are read
-pub record Going (s : List ℕ) (n k : ℕ) (header : Answer) (m : Mesh) (prev : Link) (at i : ℕ) (answer : Answer) : Type 0 where
-  pub kept : answer ≡ header
-  pub some : i ≤ k
-  pub reading : header ≡ Accepted → Reading s n k m prev at i
-
 -- ---- what reading gives, from the answers of the header and of the records
 
 module _ (s : List ℕ) where
   -- a refused header decides
-  book-refused : {refusal place : ℕ} → header_answer s ≡ Refused refusal place → book_answer s ≡ Refused refusal place
+  pub book-refused : {r : Reason} → header_answer s ≡ Err r → book_answer s ≡ Err r
   unfolding book_answer
   book-refused e = rw e
 
   -- after a good header, which says n nodes and k links, the records do
-  book_records : header_answer s ≡ Accepted → {n k : ℕ} → n ≡ get_or s 1 0 → k ≡ number 2 s 2 → book_answer s ≡ all_records s n k
+  pub book_records : header_answer s ≡ Accepted → {n k : ℕ} → n ≡ get_or s 1 0 → k ≡ number 2 s 2 → book_answer s ≡ all_records s n k
   unfolding book_answer
   book_records e en ek = rw (e, en, ek)
-
-  -- the answer, with the mesh where it accepts and the all-zero mesh where it refuses
-  pub decoded_is : (m : Mesh) (a : Answer) → a ≡ book_answer s → (a ≡ Accepted → m ≡ mesh_of s) → (refuses a ≡ true → m ≡ zero_mesh)
-      → decoded s ≡ record { mesh = m; answer = a }
-  unfolding decoded
-  decoded_is m Accepted e f g = rw (← e) (λ j. record { mesh = sym (f refl) j; answer = Accepted })
-  decoded_is m (Refused number place) e f g = rw (← e) (λ j. record { mesh = sym (g refl) j; answer = Refused number place })
-
--- ---- the ways out of the loop
-
-module _ (s : List ℕ) {n k : ℕ} {header : Answer} (en : n ≡ (header_read s).nodes) (ek : k ≡ (header_read s).count) (ea : header ≡ (header_read s).answer)
-    {m : Mesh} {prev : Link} {at i : ℕ} {answer : Answer} (G : Going s n k header m prev at i answer) where
-  -- all records are read, or the header is refused
-  abbrev over : Answer
-  over = and_then answer (must (leb (length s) at) 10 at Accepted)
-
-  pub going_over : k ≤ i → over ≡ book_answer s
-  going_over h = go header refl
-    where
-      go : (a : Answer) → header ≡ a → over ≡ book_answer s
-      go Accepted e =
-          let (ok, nodes, count) = header_good s en ek ea e in
-          rw (G.kept ∙ e) (reading_over s n k m prev at i (G.reading e) h ∙ sym (book_records s ok nodes count))
-      go (Refused number place) e = rw (G.kept ∙ e) (sym (book-refused s (sym (header_answer_lem s) ∙ sym ea ∙ e)))
-
-  pub going_mesh : k ≤ i → over ≡ Accepted → m ≡ mesh_of s
-  going_mesh h e =
-      let good = sym G.kept ∙ (and_then-accepted answer _ e).0 in
-      let (ok, nodes, count) = header_good s en ek ea good in
-      reading_mesh s n k m prev at i (G.reading good) h nodes count
-
-  -- a record is refused
-  pub going_refused : i < k → {number place : ℕ} → record_answer n (length s) prev at (drop at s) ≡ Refused number place → book_answer s ≡ Refused number place
-  going_refused h e =
-      let good = header_some s en ek ea (omega arith) in
-      let (ok, nodes, count) = header_good s en ek ea good in
-      book_records s ok nodes count ∙ reading_refused s n k m prev at i (G.reading good) h e

@@ -10,7 +10,7 @@ use Rattle.scan.specs.Part.{front, drop-take}
 use Rattle.mesh.specs.declared.Link.{Link}
 use Rattle.fields.specs.declared.Fields.{Fields}
 use Rattle.mesh.specs.declared.Mesh.{Mesh}
-use Rattle.mesh.specs.declared.Answer.TheVariants.{Accepted}
+use Rattle.mesh.specs.Answer.{Accepted}
 use Rattle.mesh.specs.Mesh.{mesh_answer}
 use Rattle.mesh.specs.WellFormed.{InRange}
 use Rattle.mesh.specs.Refusal.{previous}

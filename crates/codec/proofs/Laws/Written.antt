@@ -1,5 +1,5 @@
 -- What was written is read: the records of links that pass the checks, and the book of a mesh that passes them. Assumes nothing.
-use Rattle.std.specs.Prelude.{ℕ, suc, ◌+◌, ◌-◌, ◌≤◌, ◌≡◌, List, [], ◌∷◌, ◌++◌, map, length, get_or, take, drop}
+use Rattle.std.specs.Prelude.{ℕ, suc, ◌+◌, ◌-◌, ◌≤◌, ◌≡◌, List, [], ◌∷◌, ◌++◌, map, length, get_or, take, drop, Err}
 use Rattle.std.proofs.Math.Path.{refl}
 use Rattle.std.proofs.Common.{sym, ap, ◌∙◌, arith, leb-true, le-leb, length-drop, take-append-drop, length-take-le}
 use Rattle.std.proofs.Math.ListN.{replicate}
@@ -8,7 +8,7 @@ use Rattle.scan.specs.Part.{each-taken, map-take}
 use Rattle.scan.specs.Bytes.{number, number-bytes}
 use Rattle.mesh.specs.declared.Link.{Link}
 use Rattle.mesh.specs.declared.Mesh.{Mesh}
-use Rattle.mesh.specs.declared.Answer.TheVariants.{Accepted, Refused}
+use Rattle.mesh.specs.Answer.{Accepted}
 use Rattle.mesh.specs.Mesh.{zero_link, link_answer, links_answer, mesh_answer}
 use Rattle.mesh.specs.WellFormed.{InRange}
 use Rattle.mesh.specs.Laws.Answer.{and_then-accepted}
@@ -18,7 +18,7 @@ use Rattle.fields.specs.Record.{as_link, zero_fields, record_of, record_length}
 use Rattle.fields.specs.Entries.{entries_of}
 use Rattle.fields.specs.Laws.Entries.{Even, drop-joined, zero-joined, mesh-entries, length-entries, entry_is}
 use Rattle.writer.specs.Written.{written_as}
-use Rattle.codec.specs.Book.{longest_book, records_of, book_of, encode_answer, written, encoded, output_after}
+use Rattle.codec.specs.Book.{longest_book, records_of, book_of, encode_answer, written, encoded_as, encoded, output_after}
 use Rattle.codec.specs.Book.{records_answer, fields_from, header_answer, book_answer, mesh_of, decoded}
 use Rattle.mesh.specs.Laws.Zeros.{zero_links, no_ducts}
 use Rattle.mesh.specs.Laws.GoodMesh.{link_anywhere, GoodMesh, mesh-accepted}
@@ -101,7 +101,7 @@ decoded-book m r e = let g = mesh-accepted m e in rw (book-written m r g, mesh-w
 
 pub encoded-answer : (m : Mesh) (room : ℕ) → (encoded m room).answer ≡ encode_answer m room
 unfolding encoded written
-encoded-answer m room = elim (encode_answer m room) as (λ a. (written_as a (length (book_of m))).answer ≡ a) [ Accepted ↦ refl | Refused refusal place ↦ refl ]
+encoded-answer m room = elim (encode_answer m room) as (λ a. (encoded_as (written_as a (length (book_of m)))).answer ≡ a) [ Accepted ↦ refl | Err _ ↦ refl ]
 
 -- the bytes that writing leaves at the front of the output are read
 pub decoded_output : (m : Mesh) (out : List ℕ) → InRange m → (encoded m (length out)).answer ≡ Accepted

@@ -10,7 +10,7 @@ use Rattle.depth_first.specs.Search.{touches, far, opens}
 use Rattle.depth_first.proofs.Laws.Unfold.{opens_says}
 use Rattle.depth_first.proofs.Laws.Ancestors.{joins_far}
 use Rattle.collection.specs.Arcs.{arc_of, net_of_arcs, Leaves, ended, leaving, Heads}
-use Rattle.collection.specs.Walked.{CanTry, Passed, Next}
+use Rattle.collection.specs.Walked.{CanTry, Passed, Leading, NoneLeads}
 
 -- ---- the numbers of arcs
 
@@ -87,8 +87,8 @@ module _ (nodes links : ℕ) (to : List ℕ) where
         no_new = λ u l. over u (arc / 2) a (at next a) (heads_after C (P.leaves u l) h) (P.no_new u l) (leaves-opens seen (P.leaves u l) h ∙ ap not t);
       }
 
-      pub passed_hit : a / 2 < links → has seen (at to a) ≡ false → Next G seen arc a
-      passed_hit h f = record { passed = P; leads = λ u l _. leaves-opens seen (P.leaves u l) h ∙ ap not f }
+      pub passed_hit : a / 2 < links → has seen (at to a) ≡ false → Leading G seen arc a
+      passed_hit h f = record { passed = P; below = h; leads = λ u l. leaves-opens seen (P.leaves u l) h ∙ ap not f }
 
-      pub passed_all : links ≤ a / 2 → Next G seen arc a
-      passed_all h = record { passed = P; leads = λ u l b. absurd (omega arith) }
+      pub passed_all : links ≤ a / 2 → NoneLeads G seen arc
+      passed_all h = λ u l j b r. P.no_new u l j b (omega arith) r

@@ -9,7 +9,7 @@ use Rattle.scan.specs.Lowest.{any}
 use Rattle.graph.specs.Plan.{unreached}
 use Rattle.graph.specs.Laws.Refusal.{unreached_iff}
 use Rattle.mesh.specs.declared.Mesh.{Mesh}
-use Rattle.mesh.specs.declared.Answer.TheVariants.{Accepted}
+use Rattle.mesh.specs.Answer.{Accepted}
 use Rattle.mesh.specs.Mesh.{mesh_answer}
 use Rattle.mesh.specs.WellFormed.{InRange}
 use Rattle.mesh.specs.Laws.Checked.{passes, well_formed}

@@ -1,6 +1,6 @@
 -- Asking for the collection route meets 02: each refusal on its own condition, acceptance else; the route at the front of the output, which is as it was past the
 -- route, and all of it on a refusal. Assumes nothing.
-use Rattle.std.specs.Prelude.{ℕ, ◌<◌, ◌≤◌, ◌≡◌, refl, ◌↔◌, not, List, ltb, leb, length, take, drop}
+use Rattle.std.specs.Prelude.{ℕ, ◌<◌, ◌≤◌, ◌≡◌, refl, ◌↔◌, not, List, ltb, leb, length, take, drop, Err}
 use Rattle.std.proofs.Math.Path.{sym}
 use Rattle.std.proofs.Common.{subst, ◌∙◌, ltb-true, ltb-false, leb-true, leb-false, lt-ltb, le-ltb, le-leb}
 use Rattle.std.proofs.lemmas.Bool.{not-true, not-false, lt-leb}
@@ -9,8 +9,7 @@ use Rattle.scan.specs.Lowest.{any}
 use Rattle.graph.specs.Plan.{unreached}
 use Rattle.graph.specs.Laws.Refusal.{all-reached}
 use Rattle.mesh.specs.declared.Mesh.{Mesh}
-use Rattle.mesh.specs.declared.Answer.{Answer}
-use Rattle.mesh.specs.declared.Answer.TheVariants.{Accepted, Refused}
+use Rattle.mesh.specs.Answer.{Answer, Accepted, Refused}
 use Rattle.mesh.specs.Mesh.{mesh_answer}
 use Rattle.mesh.specs.WellFormed.{InRange}
 use Rattle.mesh.specs.Laws.Answer.{Tells, accepting, refusing, tells_itself, told-accepted, told-refused, tells_and_then, output_written, output_kept}
@@ -48,7 +47,7 @@ answered m root room = go (collect_answer m root room)
   where
     go : (a : Answer) → (collected_as a (labels_of m root) (length (route_of m root))).answer ≡ a
     go Accepted = refl
-    go (Refused number place) = refl
+    go (Err r) = refl
 
 -- each refusal on its own condition
 refused_only : (m : Mesh) (root room number place : ℕ) → (collected m root room).answer ≡ Refused number place → Refusal m root room number place

@@ -18,7 +18,7 @@ use Rattle.depth_first.specs.Search.{opens, unvisited, visiting, following, visi
 use Rattle.depth_first.proofs.Laws.Unfold.{visited_extends, wide_set, unvisited_new, visiting_new, visiting-le, opens_says, visit_is, follow-end, follow_pass, follow-take}
 use Rattle.depth_first.proofs.Laws.Follows.{visits_is, tour-length}
 use Rattle.collection.specs.Arcs.{net_of_arcs, Leaves, Heads}
-use Rattle.collection.specs.Walked.{CanVisit, CanFollow, Next, Walked, Visited, Followed}
+use Rattle.collection.specs.Walked.{CanVisit, CanFollow, Leading, NoneLeads, Walked, Visited, Followed}
 use Rattle.collection.proofs.Laws.Chain.{head_below, leaves-far, leaves-opens, heads_after}
 
 -- ---- links that are passed over
@@ -101,30 +101,34 @@ module _ (next to : List ℕ) (links : ℕ) where
           written = W.written ∙ ap (λ (m : ℕ). sets (set route place u) m (tour u (follow G (at next (512 + u) / 2) u (set seen u true)))) (add-one place);
         })
 
-  -- ---- links from that of an arc on, of which a is the next that leads to a new node
-  module _ {u arc place : ℕ} {seen : List Bool} {route : List ℕ} (C : CanFollow G next u arc place seen route) {a : ℕ} (N : Next G seen arc a) where
+  -- ---- links from that of an arc on
+  module _ {u arc place : ℕ} {seen : List Bool} {route : List ℕ} (C : CanFollow G next u arc place seen route) where
     abbrev F : Fits G
     F = C.can.fits
 
     all_flags : 64 ≤ length seen
     all_flags = omega (arith, C.flags)
 
-    to_next : follow G (arc / 2) u seen ≡ follow G (a / 2) u seen
-    to_next = skip G F u seen all_flags (a / 2 - arc / 2) (arc / 2) (a / 2) (let f = N.passed.from in omega arith) (N.passed.no_new u C.leaves)
-
-    -- there is none
-    pub follow_done : {labels : List Bool} → links ≤ a / 2 → Followed G u arc place seen labels route place seen labels route
+    -- none leads to a new node
+    pub follow_done : NoneLeads G seen arc → {labels : List Bool} → Followed G u arc place seen labels route place seen labels route
     unfolding marked tour
-    follow_done h =
-        rw (to_next ∙ follow-end G F u seen all_flags (a / 2) h)
+    follow_done N =
+        rw (skip G F u seen all_flags links (arc / 2) (arc / 2 + links) refl (λ j b _ l. N u C.leaves j b l) ∙ follow-end G F u seen all_flags (arc / 2 + links) (omega arith))
         (record { next = sym (add-zero place); seen_is = refl; labels_are = refl; written = refl })
 
-    module _ (h : a / 2 < links) where
+    -- a is the first that does
+    module _ {a : ℕ} (N : Leading G seen arc a) where
+      abbrev h : a / 2 < links
+      h = N.below
+
+      to_next : follow G (arc / 2) u seen ≡ follow G (a / 2) u seen
+      to_next = skip G F u seen all_flags (a / 2 - arc / 2) (arc / 2) (a / 2) (let f = N.passed.from in omega arith) (N.passed.no_new u C.leaves)
+
       leaves : Leaves G u a
       leaves = N.passed.leaves u C.leaves
 
       opened : opens G seen u (a / 2) ≡ true
-      opened = N.leads u C.leaves h
+      opened = N.leads u C.leaves
 
       inside : at to a < 64
       inside = head_below 64 links to F a h

@@ -4,7 +4,7 @@ use Rattle.scan.specs.Lowest.{lowest, lowest_from, any, every}
 use Rattle.scan.specs.All.{all}
 use Rattle.mesh.specs.declared.Link.{Link}
 use Rattle.mesh.specs.declared.Mesh.{Mesh}
-use Rattle.mesh.specs.declared.Answer.TheVariants.{Accepted}
+use Rattle.mesh.specs.Answer.{Accepted}
 use Rattle.mesh.specs.Mesh.{zero_link, ends_answer, links_answer, mesh_answer}
 use Rattle.graph.specs.Reach.{reaches, reached, rounds, mark_links, mark_link, mark_way}
 use Rattle.graph.specs.Plan.{connects, unreached, parts, assignments, first_that, plan}

@@ -4,14 +4,14 @@ use Rattle.std.specs.Prelude.{ℕ, ◌*◌, ◌-◌, ◌<◌, ◌≤◌, ◌≡�
 use Rattle.std.proofs.Common.{sym, ap, subst, arith}
 use Rattle.wavelengths.specs.declared.Wavelength.{Wavelength}
 use Rattle.wavelengths.specs.Merge.{Turn, links_on}
-use Rattle.mesh.specs.declared.Answer.TheVariants.{Accepted}
+use Rattle.mesh.specs.Answer.{Accepted}
 use Rattle.mesh.specs.declared.Plan.{Plan}
 use Rattle.mesh.specs.WellFormed.{link, OnlyLink}
 use Rattle.heaviest.specs.Drill.{drill}
 use Rattle.heaviest.proofs.Laws.Drill.{Kind, middle, across, kind, drill_sized}
 use Rattle.planner.specs.declared.Planned.{Planned}
 use Rattle.planner.specs.Plan.{planned}
-use Rattle.formed.specs.declared.Cut.TheVariants.{Link}
+use Rattle.formed.specs.Cut.{Link}
 use Rattle.recovery.specs.declared.Session.{Session}
 use Rattle.recovery.specs.Calls.{route_of}
 use Rattle.history.specs.History.{Call}

@@ -9,7 +9,7 @@ use Rattle.wavelengths.specs.declared.Wavelength.TheVariants.{First, Second}
 use Rattle.wavelengths.specs.Wavelength.{start_on, end_on}
 use Rattle.mesh.specs.declared.Link.{Link}
 use Rattle.mesh.specs.declared.Plan.{Plan}
-use Rattle.mesh.specs.declared.Answer.TheVariants.{Accepted}
+use Rattle.mesh.specs.Answer.{Accepted}
 use Rattle.heaviest.specs.Drill.{drill}
 use Rattle.heaviest.proofs.Laws.Drill.{middle_link, across_link, drill-accepted}
 use Rattle.nets.specs.Nets.{net_of}

@@ -1,32 +1,13 @@
--- What the test of a link and the query by duct give on each way out of them. Serves the proofs of `is_shared` and `sharing`. Assumes nothing.
-use Rattle.std.specs.Prelude.{ℕ, ◌<◌, ◌≤◌, ◌≡◌, ◌≢◌, true, false, List, eqb, length}
+-- What the query by duct gives on each way out of it. Serves the proof of `sharing`. Assumes nothing.
+use Rattle.std.specs.Prelude.{ℕ, ◌<◌, ◌≤◌, ◌≡◌, List, ◌++◌, drop, length}
 use Rattle.std.proofs.Math.Path.{sym}
 use Rattle.std.proofs.Common.{◌∙◌}
-use borrow.Author.Tests.{lt-ltb, le-ltb, le-leb, lt-leb, eq-eqb, ne_eqb}
-use Rattle.std.proofs.lemmas.List.Edits.{sets}
-use Rattle.scan.specs.Store.{sets_front}
+use borrow.Author.Tests.{lt-ltb, le-ltb, le-leb, lt-leb}
 use Rattle.mesh.specs.declared.Mesh.{Mesh}
-use Rattle.mesh.specs.declared.Answer.{Answer}
-use Rattle.mesh.specs.declared.Answer.TheVariants.{Accepted, Refused}
+use Rattle.mesh.specs.Answer.{Answer, Accepted, Refused}
 use Rattle.mesh.specs.Mesh.{mesh_answer}
-use Rattle.mesh.specs.WellFormed.{duct}
 use Rattle.ducts.specs.declared.Shared.{Shared}
-use Rattle.ducts.specs.Sharing.{shares, links_sharing, sharing, sharing_answer, shared_as, shared, output_after}
-
--- ---- the test
-
-module _ (ducts : ℕ → ℕ) (k i : ℕ) where
-  -- it is the named link
-  pub shares_itself : i ≡ k → true ≡ shares ducts k i
-  shares_itself e = rw (eq-eqb i k e)
-
-  -- the named link has no duct
-  pub shares_none : i ≢ k → ducts k ≡ 0 → false ≡ shares ducts k i
-  shares_none n z = rw (ne_eqb i k n, eq-eqb (ducts k) 0 z)
-
-  -- it has one
-  pub shares-duct : i ≢ k → ducts k ≢ 0 → eqb (ducts i) (ducts k) ≡ shares ducts k i
-  shares-duct n z = rw (ne_eqb i k n, ne_eqb (ducts k) 0 z)
+use Rattle.ducts.specs.Sharing.{sharing, sharing_answer, shared_as, shared, output_after}
 
 -- ---- the query
 
@@ -48,17 +29,16 @@ module _ (m : Mesh) (k : ℕ) (out : List ℕ) where
     gives_no_link r l e = (e ∙ rw (h, le-ltb k m.count l), rw (h, le-ltb k m.count l))
 
     -- there are n to list
-    module _ (l : k < m.count) (n : ℕ) (q : n ≡ length (links_sharing (duct m) m.count k)) where
+    module _ (l : k < m.count) (n : ℕ) (q : n ≡ length (sharing m k)) where
       pub gives_short : (r : Shared) → length out < n → r ≡ shared_as (Refused 11 n) 0 → Gives m k out r out
-      unfolding shared output_after sharing_answer sharing
+      unfolding shared output_after sharing_answer
       gives_short r s e =
           let short = lt-leb _ _ (rw q at s) in
           (e ∙ rw (h, lt-ltb k m.count l, short, q), rw (h, lt-ltb k m.count l, short))
 
-      pub gives_all : n ≤ length out → {after : List ℕ} → after ≡ sets out 0 (links_sharing (duct m) m.count k)
+      pub gives_all : n ≤ length out → {after : List ℕ} → after ≡ sharing m k ++ drop (length (sharing m k)) out
           → Gives m k out (record { count = n; answer = Accepted }) after
-      unfolding shared output_after sharing_answer sharing
+      unfolding shared output_after sharing_answer
       gives_all s o =
-          let room = rw q at s in
-          let fits = le-leb _ _ room in
-          (rw (h, lt-ltb k m.count l, fits, q), o ∙ sets_front (links_sharing (duct m) m.count k) out room ∙ rw (h, lt-ltb k m.count l, fits))
+          let fits = le-leb _ _ (rw q at s) in
+          (rw (h, lt-ltb k m.count l, fits, q), o ∙ rw (h, lt-ltb k m.count l, fits))

@@ -1,13 +1,12 @@
 -- The query by duct meets 02: each refusal on its own condition, acceptance else; the list at the front of the output, which is as it was past
 -- the list, and all of it on a refusal. Assumes nothing.
-use Rattle.std.specs.Prelude.{ℕ, ◌<◌, ◌≤◌, ◌≡◌, refl, ◌↔◌, List, ltb, leb, length, take, drop}
+use Rattle.std.specs.Prelude.{ℕ, ◌<◌, ◌≤◌, ◌≡◌, refl, ◌↔◌, List, ltb, leb, length, take, drop, Err}
 use Rattle.std.proofs.Math.Path.{sym}
 use Rattle.std.proofs.Common.{subst, ◌∙◌, ltb-true, ltb-false, leb-true, leb-false, lt-ltb, le-ltb, le-leb}
 use Rattle.std.proofs.lemmas.Bool.{lt-leb}
 use Rattle.scan.specs.Test.{branch}
 use Rattle.mesh.specs.declared.Mesh.{Mesh}
-use Rattle.mesh.specs.declared.Answer.{Answer}
-use Rattle.mesh.specs.declared.Answer.TheVariants.{Accepted, Refused}
+use Rattle.mesh.specs.Answer.{Answer, Accepted, Refused}
 use Rattle.mesh.specs.Mesh.{mesh_answer}
 use Rattle.mesh.specs.Laws.Answer.{Tells, accepting, refusing, tells_itself, told-accepted, told-refused, tells_and_then, output_written, output_kept}
 use Rattle.ducts.specs.Sharing.{sharing, sharing_answer, shared_as, shared, output_after}
@@ -37,7 +36,7 @@ answered m k room = go (sharing_answer m k room)
   where
     go : (a : Answer) → (shared_as a (length (sharing m k))).answer ≡ a
     go Accepted = refl
-    go (Refused number place) = refl
+    go (Err r) = refl
 
 -- each refusal on its own condition
 refused_only : (m : Mesh) (k room number place : ℕ) → (shared m k room).answer ≡ Refused number place → Refusal m k room number place

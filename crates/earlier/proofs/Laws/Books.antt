@@ -1,6 +1,6 @@
 -- A book that is read by one order test is read by another exactly where the links of its mesh pass that test. Assumes nothing.
 use Prim.Native.Nat.{ℕ, zero, suc, ◌+◌, ◌-◌}
-use Rattle.std.specs.Prelude.{◌≡◌, not, length, get_or, take, drop, ltb, leb}
+use Rattle.std.specs.Prelude.{◌≡◌, not, length, get_or, take, drop, ltb, leb, Err}
 use Rattle.std.proofs.Math.Path.{refl}
 use mathlib.Core.List.{List, ◌++◌, map}
 use Rattle.std.proofs.Math.ListN.{replicate}
@@ -8,8 +8,7 @@ use Rattle.std.proofs.Math.Seq.{take_at}
 use Rattle.scan.specs.Bytes.{number}
 use Rattle.scan.specs.Part.{map-take}
 use Rattle.mesh.specs.declared.Link.{Link}
-use Rattle.mesh.specs.declared.Answer.{Answer}
-use Rattle.mesh.specs.declared.Answer.TheVariants.{Accepted, Refused}
+use Rattle.mesh.specs.Answer.{Answer, Accepted, Refused}
 use Rattle.mesh.specs.Mesh.{zero_link}
 use Rattle.mesh.specs.Laws.Answer.{must-accepted, and_then-accepted}
 use Rattle.fields.specs.declared.Fields.{Fields}
@@ -98,4 +97,4 @@ module _ (o : Order) (s : List ℕ) where
     where
       by_answer : (a : Answer) → (decoded_as a (mesh_of s)).answer ≡ a
       by_answer Accepted = refl
-      by_answer (Refused number place) = refl
+      by_answer (Err r) = refl

@@ -7,7 +7,7 @@ use Rattle.std.proofs.Common.{arith, leb-true, get_or-take, length-take-le}
 use Rattle.std.proofs.Math.ListN.{length-take}
 use Rattle.mesh.specs.declared.Link.{Link}
 use Rattle.mesh.specs.declared.Mesh.{Mesh}
-use Rattle.mesh.specs.declared.Answer.TheVariants.{Accepted}
+use Rattle.mesh.specs.Answer.{Accepted}
 use Rattle.mesh.specs.Mesh.{zero_link, nodes_fit, count_fits, rest_zero}
 use Rattle.mesh.specs.WellFormed.{link}
 use Rattle.mesh.specs.Refusal.{previous}

@@ -6,7 +6,7 @@ use Rattle.std.proofs.Math.Logic.{⊎_map}
 use Rattle.std.proofs.Math.Decide.{dec_lt}
 use Rattle.scan.specs.Test.{Says, lt_says, eq_says, and_says, or_says}
 use Rattle.mesh.specs.declared.Mesh.{Mesh}
-use Rattle.mesh.specs.declared.Answer.TheVariants.{Accepted}
+use Rattle.mesh.specs.Answer.{Accepted}
 use Rattle.mesh.specs.Mesh.{follows, mesh_answer}
 use Rattle.mesh.specs.WellFormed.{link, WellFormed, OnlyLink}
 use Rattle.mesh.specs.Refusal.{previous}

@@ -1,10 +1,7 @@
--- `ends::rise` meets its contract. Each entry below i rises; the last block may start before i, and ends with the last entry.
-use Prim.Native.Nat.{ℕ, ◌-◌, ◌<◌, ◌≤◌}
+-- `ends::rise` meets its contract. Each entry below block b rises; the last block may start before that, and ends with the last entry.
+use Prim.Native.Nat.{ℕ, ◌*◌, ◌<◌, ◌≤◌}
 use Rattle.ends.specs.Ends.{Rising}
 use Rattle.ends.proofs.rise.Given as goal
 
-abbrev pub invariant-loop-i : goal.invariant-loop-i
-invariant-loop-i l = (1 ≤ l.i) × ((j : ℕ) → 0 < j → j < l.i → j < 256 → Rising l.ends j)
-
-abbrev pub decreases-loop-i : goal.decreases-loop-i
-decreases-loop-i l = l.links - l.i
+abbrev pub invariant-loop-b : goal.invariant-loop-b
+invariant-loop-b l = (j : ℕ) → 0 < j → j ≤ l.b * 16 → j < 256 → Rising l.ends j

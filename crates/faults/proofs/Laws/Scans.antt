@@ -1,4 +1,4 @@
--- Loops that keep whether some entry failed a test so far, and what they say of the entries of a plan or a session. Serves the proofs of `entries`.
+-- Loops that keep whether some entry failed a test so far, and what they say of the entries of a plan or a session. Serves the proofs of this crate.
 -- Assumes nothing.
 use Rattle.std.specs.Prelude.{ℕ, ◌+◌, ◌<◌, ◌≤◌, max, min, ◌≡◌, refl, ◌⊎◌, Bool, true, false, cond, not, ◌&&◌, ◌||◌, List, eqb, leb}
 use Rattle.std.proofs.Math.Path.{sym}
@@ -48,6 +48,13 @@ module _ (n limit : ℕ) (q : ℕ → Bool) where
   past_found from b h l e =
       let (j, k, t) = (any_says (λ j. q (from + j)) b).0 (sym e) in
       sym ((any_says past limit).1 (from + j, omega arith, rw (le-leb n (from + j) (omega arith)) t))
+
+-- over the b from n on
+pub past_part : (n b : ℕ) (q : ℕ → Bool) → any (past n 0 q) (n + b) ≡ any (λ j. q (n + j)) b
+past_part n b q =
+    let before = any_none (past n 0 q) n n (λ j h. rw (lt-leb n j h)) (omega arith) in
+    let onward = any_same (λ j. past n 0 q (n + j)) (λ j. q (n + j)) b (λ j k. rw (le-leb n (n + j) (omega arith))) in
+    sym (any_block (past n 0 q) n n b (omega arith) (omega arith)) ∙ rw (before, onward)
 
 not-and : (a b : Bool) → not (a && b) ≡ (not a || not b)
 not-and true b = refl

@@ -1,17 +1,12 @@
 use mathlib.Core.Path.{◌∙◌}
-use native.Mathlib.Omega.{arith}
 use Rattle.faults.proofs.Laws.Scans.{past_none, past-turn, past_all, strays-either}
 use Rattle.faults.proofs.has_stray.Goals as goal
 
 pub loop-v-init : goal.loop-v-init
-loop-v-init c = (omega arith, past_none c.args.nodes 64 _)
+loop-v-init c = past_none c.args.nodes 64 _
 
 pub loop-v-preserved : goal.loop-v-preserved
-loop-v-preserved c =
-    let lo = c.loop-v in
-    (omega arith, past-turn _ 64 _ lo.v lo.bad lo.invariant.1 lo.invariant.0 (omega arith))
+loop-v-preserved c = let l = c.loop-v in past-turn _ 64 _ l.v l.bad l.invariant l.auto.v c.loop-v-test.true
 
 pub returns : goal.returns
-returns c =
-    let lo = c.loop-v in
-    past_all _ 64 _ lo.v lo.bad lo.invariant.1 (omega arith) ∙ strays-either _ _ _
+returns c = let l = c.loop-v in past_all _ 64 _ l.v l.bad l.invariant c.loop-v-test.false ∙ strays-either _ _ _

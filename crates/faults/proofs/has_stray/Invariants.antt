@@ -1,5 +1,5 @@
 -- `faults::has_stray` meets its contract. The loop keeps whether some node below v is a stray on either wavelength; below N none is.
-use Prim.Native.Nat.{◌-◌, ◌≤◌, min}
+use Prim.Native.Nat.{min}
 use mathlib.Core.Path.{◌≡◌}
 use mathlib.Core.Bool.{◌&&◌, ◌||◌}
 use lib.Dec.{leb}
@@ -8,7 +8,4 @@ use Rattle.scan.specs.Lowest.{any}
 use Rattle.faults.proofs.has_stray.Given as goal
 
 abbrev pub invariant-loop-v : goal.invariant-loop-v
-invariant-loop-v l = (l.nodes ≤ l.v) × (l.bad ≡ any (λ j. leb l.nodes j && (has l.first j || has l.second j)) (min l.v 64))
-
-abbrev pub decreases-loop-v : goal.decreases-loop-v
-decreases-loop-v l = 64 - l.v
+invariant-loop-v l = l.bad ≡ any (λ j. leb l.nodes j && (has l.first j || has l.second j)) (min l.v 64)

@@ -10,7 +10,7 @@ use Rattle.std.proofs.Math.Seq.{take-add, take-suc, take_at, drop_at}
 use Rattle.scan.specs.Bytes.{AreBytes, number_below, number_append}
 use Rattle.scan.specs.Test.{branch}
 use Rattle.mesh.specs.declared.Link.{Link}
-use Rattle.mesh.specs.declared.Answer.TheVariants.{Accepted}
+use Rattle.mesh.specs.Answer.{Accepted}
 use Rattle.mesh.specs.Mesh.{link_answer}
 use Rattle.mesh.specs.WellFormed.{LinkInRange}
 use Rattle.mesh.specs.Laws.Answer.{must-accepted}

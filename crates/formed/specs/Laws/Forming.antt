@@ -1,6 +1,6 @@
 -- The record test accepts exactly the well-formed records, and refuses with the mesh's own refusal or with 13 at 0. Assumes nothing.
 use Prim.Native.Nat.{ℕ, ◌<◌, ◌≤◌}
-use Rattle.std.specs.Prelude.{◌≡◌, refl, ◌↔◌, true, false, not, ◌||◌, List, eqb, length}
+use Rattle.std.specs.Prelude.{◌≡◌, refl, ◌↔◌, true, false, not, ◌||◌, List, eqb, length, Err}
 use Rattle.std.proofs.Common.{sym, subst, ◌∙◌, arith}
 use Rattle.std.proofs.Math.Bool.{Bool}
 use Rattle.std.proofs.Math.Decide.{dec_lt}
@@ -10,8 +10,7 @@ use Rattle.scan.specs.Entry.{at, has}
 use Rattle.scan.specs.Lowest.{any_none, any_fails}
 use Rattle.mesh.specs.declared.Mesh.{Mesh}
 use Rattle.mesh.specs.declared.Plan.{Plan}
-use Rattle.mesh.specs.declared.Answer.{Answer}
-use Rattle.mesh.specs.declared.Answer.TheVariants.{Accepted, Refused}
+use Rattle.mesh.specs.Answer.{Answer, Accepted, Refused}
 use Rattle.mesh.specs.Mesh.{and_then, mesh_answer}
 use Rattle.mesh.specs.WellFormed.{WellFormed}
 use Rattle.mesh.specs.Laws.Answer.{refused-accepted, Tells, accepting, refusing, told-accepted, told-refused, tells_accepted, tells_and_then}
@@ -21,8 +20,8 @@ use Rattle.wavelengths.specs.declared.Floods.{Floods}
 use Rattle.wavelengths.specs.declared.Wavelength.{Wavelength}
 use Rattle.wavelengths.specs.declared.Wavelength.TheVariants.{First, Second}
 use Rattle.wavelengths.specs.Wavelength.{on}
-use Rattle.formed.specs.declared.Cut.{Cut}
-use Rattle.formed.specs.declared.Cut.TheVariants as cuts
+use Rattle.formed.specs.Cut.{Cut}
+use Rattle.formed.specs.Cut as cuts
 use Rattle.faults.specs.Faults.{is_over, overflows, is_stray, strays}
 use Rattle.formed.specs.Formed.{misplaced, plan_fault, flood_fault, floods_fault, start_answer, record_answer}
 use Rattle.formed.specs.WellFormed.{Bounded, PlanFormed, CutFormed, FloodFormed, Formed, Refusal, of_mesh, ill_formed_lem}
@@ -115,7 +114,7 @@ mesh-first m F next h = go (mesh_answer m) refl
   where
     go : (a : Answer) → mesh_answer m ≡ a → Told m F (and_then a next)
     go Accepted e = h e
-    go (Refused number place) e = refusing (of_mesh e)
+    go (Err r) e = refusing (of_mesh e)
 
 -- where F does not hold, no more than F does either
 refused-more : (m : Mesh) {F G : Type 0} → (G → F) → (number place : ℕ) → Refusal m F number place → Refusal m G number place

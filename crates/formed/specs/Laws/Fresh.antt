@@ -1,5 +1,5 @@
 -- The record of a fresh session is tested as a start on its mesh and plan is. Assumes nothing.
-use Rattle.std.specs.Prelude.{ℕ, ◌≡◌, cond, ltb, leb, replicate}
+use Rattle.std.specs.Prelude.{ℕ, ◌≡◌, cond, ltb, leb, replicate, Err}
 use Rattle.std.proofs.Math.Path.{refl}
 use Rattle.std.proofs.Math.Bool.{false, and-false}
 use Rattle.std.proofs.Common.{arith, le-ltb}
@@ -7,12 +7,11 @@ use Rattle.scan.specs.Entry.{replicate-at}
 use Rattle.scan.specs.Lowest.{any_none}
 use Rattle.mesh.specs.declared.Mesh.{Mesh}
 use Rattle.mesh.specs.declared.Plan.{Plan}
-use Rattle.mesh.specs.declared.Answer.{Answer}
-use Rattle.mesh.specs.declared.Answer.TheVariants.{Accepted, Refused}
+use Rattle.mesh.specs.Answer.{Answer, Accepted, Refused}
 use Rattle.mesh.specs.Mesh.{and_then}
 use Rattle.flood.specs.Machine.{fresh}
 use Rattle.wavelengths.specs.Merge.{fresh_on_each}
-use Rattle.formed.specs.declared.Cut.TheVariants.{Nothing}
+use Rattle.formed.specs.Cut.{Nothing}
 use Rattle.faults.specs.Faults.{is_over, overflows, is_stray, strays}
 use Rattle.formed.specs.Formed.{flood_fault, floods_fault, start_answer, record_answer}
 
@@ -31,4 +30,4 @@ module _ (m : Mesh) where
     where
       go : (a : Answer) → and_then a Accepted ≡ a
       go Accepted = refl
-      go (Refused number place) = refl
+      go (Err r) = refl

@@ -1,17 +1,16 @@
 -- The record test by the pieces is the record test. Assumes nothing.
-use Rattle.std.specs.Prelude.{◌≡◌, refl, Bool, true, false, not, ◌||◌}
+use Rattle.std.specs.Prelude.{◌≡◌, refl, Bool, true, false, not, ◌||◌, Err}
 use Rattle.std.proofs.Common.{sym, ap, ◌∙◌}
 use Rattle.std.proofs.Math.Bool.{or-true}
 use Rattle.mesh.specs.declared.Mesh.{Mesh}
 use Rattle.mesh.specs.declared.Plan.{Plan}
-use Rattle.mesh.specs.declared.Answer.{Answer}
-use Rattle.mesh.specs.declared.Answer.TheVariants.{Accepted, Refused}
+use Rattle.mesh.specs.Answer.{Answer, Accepted, Refused}
 use Rattle.mesh.specs.Mesh.{must, and_then, mesh_answer}
 use Rattle.mesh.specs.WellFormed.{InRange}
 use Rattle.mesh.specs.Parts.{ends_in, rest_zero, parts_answer}
 use Rattle.mesh.specs.Laws.Parts.{parts-answer}
 use Rattle.wavelengths.specs.declared.Floods.{Floods}
-use Rattle.formed.specs.declared.Cut.{Cut}
+use Rattle.formed.specs.Cut.{Cut}
 use Rattle.faults.specs.Faults.{overflows, strays}
 use Rattle.formed.specs.Formed.{misplaced, plan_fault, flood_fault, floods_fault, start_answer, record_answer}
 use Rattle.formed.specs.Pieces.{ill_formed, record_after}
@@ -30,7 +29,7 @@ by_wavelength false false false reached1 reached2 = refl
 in_turn : (a : Answer) (plan cut states1 states2 reached1 reached2 : Bool)
     → and_then a (must (not ((plan || (states1 || states2)) || cut || (reached1 || reached2))) 13 0 Accepted)
     ≡ and_then (and_then a (must (not plan) 13 0 Accepted)) (must (not (cut || ((states1 || reached1) || (states2 || reached2)))) 13 0 Accepted)
-in_turn (Refused number place) plan cut states1 states2 reached1 reached2 = refl
+in_turn (Err r) plan cut states1 states2 reached1 reached2 = refl
 in_turn Accepted true cut states1 states2 reached1 reached2 = refl
 in_turn Accepted false cut states1 states2 reached1 reached2 = rw (by_wavelength cut states1 states2 reached1 reached2)
 

@@ -1,25 +1,23 @@
 -- Computed equality of answers, meshes and what reading, planning, each call and the route query give: where the test passes, the two are equal.
 -- Assumes nothing.
-use Rattle.std.specs.Prelude.{ℕ, ◌≡◌, refl, Bool, true, false, cond, ◌&&◌, List, [], ◌∷◌, map, eqb}
+use Rattle.std.specs.Prelude.{ℕ, ◌≡◌, refl, Bool, true, false, cond, ◌&&◌, List, [], ◌∷◌, map, eqb, Err, Ok}
 use Rattle.std.proofs.Common.{sym, ◌∙◌, ap, eqb-true}
 use Rattle.std.proofs.lemmas.Bool.{false≢true}
 use Rattle.std.proofs.Math.Bool.{and-eq-true_iff}
 use Rattle.scan.specs.Entry.{at}
 use Rattle.scan.specs.Total.{bit}
-use Rattle.metres.specs.declared.Length.TheVariants as lengths
+use Rattle.metres.specs.Known.{Length}
+use Rattle.metres.specs.Known as lengths
 use Rattle.mesh.specs.declared.Link.{Link}
 use Rattle.mesh.specs.declared.Mesh.{Mesh}
-use Rattle.mesh.specs.declared.Answer.{Answer}
-use Rattle.mesh.specs.declared.Answer.TheVariants.{Accepted, Refused}
+use Rattle.mesh.specs.Answer.{Answer, Accepted, Refused}
 use Rattle.codec.specs.declared.Decoded.{Decoded}
 use Rattle.planner.specs.declared.Planned.{Planned}
 use Rattle.recovery.specs.declared.Session.{Session}
 use Rattle.recovery.specs.declared.Delivered.{Delivered}
 use Rattle.recovery.specs.declared.Delivered.TheVariants as delivered
-use Rattle.recovery.specs.declared.Report.{Report}
-use Rattle.recovery.specs.declared.Report.TheVariants as report
-use Rattle.recovery.specs.declared.Status.{Status}
-use Rattle.recovery.specs.declared.Status.TheVariants as statuses
+use Rattle.recovery.specs.Answers.{Report, Status}
+use Rattle.recovery.specs.Answers as outcomes
 use Rattle.recovery.specs.declared.Routed.{Routed}
 use Rattle.history.specs.History.{Call, Reply, Answered, cut, deliver, run, mend, status, reply, next, answers}
 
@@ -72,17 +70,17 @@ same-mesh a b e =
 
 abbrev pub same_answer : Answer → Answer → Bool
 same_answer Accepted Accepted = true
-same_answer Accepted (Refused number place) = false
-same_answer (Refused number place) Accepted = false
-same_answer (Refused n p) (Refused number place) = eqb n number && eqb p place
+same_answer Accepted (Err r) = false
+same_answer (Err r) Accepted = false
+same_answer (Err r) (Err why) = eqb r.number why.number && eqb r.place why.place
 
 same_answer_lem : (a b : Answer) → same_answer a b ≡ true → a ≡ b
 same_answer_lem Accepted Accepted e = refl
-same_answer_lem Accepted (Refused number place) e = absurd (false≢true e)
-same_answer_lem (Refused number place) Accepted e = absurd (false≢true e)
-same_answer_lem (Refused n p) (Refused number place) e =
-    let (first, second) = (and-eq-true_iff (eqb n number) _).0 e in
-    λ j. Refused (eqb-true n number first j) (eqb-true p place second j)
+same_answer_lem Accepted (Err r) e = absurd (false≢true e)
+same_answer_lem (Err r) Accepted e = absurd (false≢true e)
+same_answer_lem (Err r) (Err why) e =
+    let (first, second) = (and-eq-true_iff (eqb r.number why.number) _).0 e in
+    λ j. Refused (eqb-true r.number why.number first j) (eqb-true r.place why.place second j)
 
 abbrev pub same_decoded : Decoded → Decoded → Bool
 same_decoded a b = same_mesh a.mesh b.mesh && same_answer a.answer b.answer
@@ -145,38 +143,47 @@ same_delivered = same_coded delivered_numbers back inverse
     inverse (delivered.Refused number place) = refl
 
 abbrev report_numbers : Report → List ℕ
-report_numbers (report.Made count rest) = 0 ∷ count ∷ bit rest ∷ []
-report_numbers (report.Refused number place) = 1 ∷ number ∷ place ∷ []
+report_numbers (Ok o) = 0 ∷ o.made ∷ bit o.rest ∷ []
+report_numbers (Err r) = 1 ∷ r.number ∷ r.place ∷ []
 
 same_report : (a b : Report) → same_numbers (report_numbers a) (report_numbers b) ≡ true → a ≡ b
 same_report = same_coded report_numbers back inverse
   where
     back : List ℕ → Report
-    back l = cond (eqb (at l 0) 0) (report.Made (at l 1) (eqb (at l 2) 1)) (report.Refused (at l 1) (at l 2))
+    back l = cond (eqb (at l 0) 0) (outcomes.Made (at l 1) (eqb (at l 2) 1)) (Refused (at l 1) (at l 2))
+
+    made : (count : ℕ) (rest : Bool) → back (report_numbers (outcomes.Made count rest)) ≡ outcomes.Made count rest
+    made count true = refl
+    made count false = refl
 
     inverse : (a : Report) → back (report_numbers a) ≡ a
-    inverse (report.Made count true) = refl
-    inverse (report.Made count false) = refl
-    inverse (report.Refused number place) = refl
+    inverse (Ok o) = made o.made o.rest
+    inverse (Err r) = refl
+
+abbrev link_numbers : ℕ → ℕ → Length → List ℕ
+link_numbers state under_way (lengths.Metres n) = 0 ∷ state ∷ under_way ∷ n ∷ []
+link_numbers state under_way lengths.NotKnown = 1 ∷ state ∷ under_way ∷ []
 
 abbrev status_numbers : Status → List ℕ
-status_numbers (statuses.Link state under_way (lengths.Metres n)) = 0 ∷ state ∷ under_way ∷ n ∷ []
-status_numbers (statuses.Link state under_way lengths.NotKnown) = 1 ∷ state ∷ under_way ∷ []
-status_numbers (statuses.Refused number place) = 2 ∷ number ∷ place ∷ []
+status_numbers (Ok l) = link_numbers l.state l.under_way l.route
+status_numbers (Err r) = 2 ∷ r.number ∷ r.place ∷ []
 
 same_status : (a b : Status) → same_numbers (status_numbers a) (status_numbers b) ≡ true → a ≡ b
 same_status = same_coded status_numbers back inverse
   where
     back : List ℕ → Status
     back l =
-        cond (eqb (at l 0) 0) (statuses.Link (at l 1) (at l 2) (lengths.Metres (at l 3)))
-        (cond (eqb (at l 0) 1) (statuses.Link (at l 1) (at l 2) lengths.NotKnown)
-        (statuses.Refused (at l 1) (at l 2)))
+        cond (eqb (at l 0) 0) (outcomes.Link (at l 1) (at l 2) (lengths.Metres (at l 3)))
+        (cond (eqb (at l 0) 1) (outcomes.Link (at l 1) (at l 2) lengths.NotKnown)
+        (Refused (at l 1) (at l 2)))
+
+    link : (state under_way : ℕ) (route : Length) → back (link_numbers state under_way route) ≡ outcomes.Link state under_way route
+    link state under_way (lengths.Metres n) = refl
+    link state under_way lengths.NotKnown = refl
 
     inverse : (a : Status) → back (status_numbers a) ≡ a
-    inverse (statuses.Link state under_way (lengths.Metres n)) = refl
-    inverse (statuses.Link state under_way lengths.NotKnown) = refl
-    inverse (statuses.Refused number place) = refl
+    inverse (Ok l) = link l.state l.under_way l.route
+    inverse (Err r) = refl
 
 abbrev same_reply : (c : Call) → Reply c → Reply c → Bool
 same_reply (cut f k) a b = same_answer a b

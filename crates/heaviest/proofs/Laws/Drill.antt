@@ -10,7 +10,7 @@ use Rattle.std.proofs.lemmas.List.{length-replicate, get_or_at}
 use Rattle.scan.specs.Test.{failing}
 use Rattle.scan.specs.Entry.{replicate-at}
 use Rattle.mesh.specs.declared.Link.{Link}
-use Rattle.mesh.specs.declared.Answer.TheVariants.{Accepted}
+use Rattle.mesh.specs.Answer.{Accepted}
 use Rattle.mesh.specs.Mesh.{zero_link, zero_mesh, mesh_answer}
 use Rattle.mesh.specs.WellFormed.{link, Joins, Rises, WellFormed, LinkInRange, InRange}
 use Rattle.mesh.specs.Laws.Checked.{accepts}

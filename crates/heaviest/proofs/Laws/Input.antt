@@ -8,8 +8,7 @@ use Rattle.std.proofs.Math.Seq.{take-length, take-append_seam}
 use Rattle.std.proofs.lemmas.Bool.{eqb-false}
 use Rattle.scan.specs.Test.{branch, and_says, not_says}
 use Rattle.scan.specs.Entry.{at, at_inside}
-use Rattle.heaviest.specs.declared.Asked.{Asked}
-use Rattle.heaviest.specs.declared.Asked.TheVariants.{Middles, Refused}
+use Rattle.heaviest.specs.Asked.{Asked, Middles, Refused}
 use Rattle.heaviest.specs.Drill.{is_size}
 use Rattle.heaviest.specs.Input.{decimal, Names, until_feed, is_digit, one_digit, two_digits, value_of, asked}
 use Rattle.heaviest.proofs.Laws.Tests.{size_says, digit_says, feed_within, feed_most}

@@ -11,7 +11,7 @@ use Rattle.graph.specs.Net.{end, code, along, Fits, Arc, Assignment}
 use Rattle.flood.specs.Path.{AnyArc, Strong}
 use Rattle.mesh.specs.declared.Mesh.{Mesh}
 use Rattle.mesh.specs.declared.Plan.{Plan}
-use Rattle.mesh.specs.declared.Answer.TheVariants.{Accepted}
+use Rattle.mesh.specs.Answer.{Accepted}
 use Rattle.mesh.specs.WellFormed.{WellFormed}
 use Rattle.mesh.specs.Laws.Checked.{well_formed}
 use Rattle.nets.specs.Nets.{net_of}

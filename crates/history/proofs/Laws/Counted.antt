@@ -19,13 +19,13 @@ use Rattle.wavelengths.specs.Wavelength.{on}
 use Rattle.wavelengths.specs.Merge.{links_on}
 use Rattle.mesh.specs.declared.Mesh.{Mesh}
 use Rattle.mesh.specs.declared.Plan.{Plan}
-use Rattle.mesh.specs.declared.Answer.TheVariants.{Accepted}
+use Rattle.mesh.specs.Answer.{Accepted}
 use Rattle.mesh.specs.WellFormed.{WellFormed, OnlyLink}
 use Rattle.mesh.specs.Laws.Checked.{well_formed}
 use Rattle.planner.specs.Plan.{planned}
 use Rattle.planner.specs.Laws.Meaning.{plan_checked}
 use Rattle.topology.specs.Backup.{backup_on}
-use Rattle.formed.specs.declared.Cut.TheVariants.{Link}
+use Rattle.formed.specs.Cut.{Link}
 use Rattle.recovery.specs.Session.{floods}
 use Rattle.recovery.specs.Calls.{route_of}
 use Rattle.history.specs.History.{Call}

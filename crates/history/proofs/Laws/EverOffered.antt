@@ -18,9 +18,9 @@ use Rattle.wavelengths.specs.Merge.{Turn, turns_on, links_on}
 use Rattle.wavelengths.proofs.Laws.Project.{links_turns, accepted-turns}
 use Rattle.mesh.specs.declared.Mesh.{Mesh}
 use Rattle.mesh.specs.declared.Plan.{Plan}
-use Rattle.mesh.specs.declared.Answer.TheVariants.{Accepted}
+use Rattle.mesh.specs.Answer.{Accepted}
 use Rattle.planner.specs.Plan.{planned}
-use Rattle.formed.specs.declared.Cut.TheVariants.{Link}
+use Rattle.formed.specs.Cut.{Link}
 use Rattle.recovery.specs.declared.Session.{Session}
 use Rattle.history.specs.History.{Call}
 use Rattle.history.specs.Rules.{start}

@@ -1,7 +1,7 @@
 -- What every call keeps: no cut stands and the session is fresh, or the cut of a link stands and the session is what the deliveries since make of it, in
 -- turn, each accepted. So on each wavelength the flood has made progress by its own deliveries. Assumes of the calls that what they keep passes its record
 -- test, and of the progress a strong back-up digraph with at most 256 links and 64 nodes.
-use Rattle.std.specs.Prelude.{ℕ, ◌<◌, ◌≤◌, ◌≡◌, true, false, eqb, length}
+use Rattle.std.specs.Prelude.{ℕ, ◌<◌, ◌≤◌, ◌≡◌, true, false, eqb, length, Err}
 use Rattle.std.proofs.Math.Path.{refl, subst}
 use Rattle.std.proofs.Common.{sym, ap₂, ◌∙◌, arith, length-append}
 use mathlib.Core.List.{List, [], ◌∷◌, ◌++◌, append-nil}
@@ -26,9 +26,8 @@ use Rattle.wavelengths.proofs.Laws.Project.{links_all, fresh_on_lem, on-begin, p
 use Rattle.wavelengths.proofs.Laws.Run.{order-accepted}
 use Rattle.mesh.specs.declared.Mesh.{Mesh}
 use Rattle.mesh.specs.declared.Plan.{Plan}
-use Rattle.mesh.specs.declared.Answer.{Answer}
-use Rattle.mesh.specs.declared.Answer.TheVariants.{Accepted, Refused}
-use Rattle.formed.specs.declared.Cut.TheVariants.{Link}
+use Rattle.mesh.specs.Answer.{Answer, Accepted, Refused}
+use Rattle.formed.specs.Cut.{Link}
 use Rattle.recovery.specs.declared.Delivered.{Delivered}
 use Rattle.recovery.specs.declared.Session.{Session}
 use Rattle.recovery.specs.Session.{floods, session_of}
@@ -166,7 +165,7 @@ module _ (m : Mesh) (p : Plan) where
     where
       by_answer : (a : Answer) → cut_answer s k ≡ a → let r = change a s (cut_on s k) in Kept r.session (note g (cut f k) r.answer (seen s) l)
       by_answer Accepted e = let (r, h, c) = cut-accepted s k e in cut-kept K k h c
-      by_answer (Refused number place) e = K
+      by_answer (Err r) e = K
   call_kept {s} {l} K (deliver f k u) = by_answer (deliver_answer s k u) refl
     where
       w : Wavelength
@@ -179,18 +178,18 @@ module _ (m : Mesh) (p : Plan) where
       by_answer Accepted e =
           let (r, b, n, c, a) = deliver_accepted s k u e in
           rw (acted-accepted ((digraph s w).tail k) ((digraph s w).head k) (at (on w later).states k)) (deliver_kept K k w c a)
-      by_answer (Refused number place) e = none_kept K
+      by_answer (Err r) e = none_kept K
   call_kept {s} {l} K (run n) = by_answer (run_answer s) refl
     where
       by_answer : (a : Answer) → run_answer s ≡ a → let r = run_as a s (merge.run (digraph s) (failure s) n (floods s)) in
           Kept r.session (note g (run n) r.report (seen s) l)
       by_answer Accepted e = run-kept K n e
-      by_answer (Refused number place) e = none_kept K
+      by_answer (Err r) e = none_kept K
   call_kept {s} {l} K (mend f k) = by_answer (mend_answer s k)
     where
       by_answer : (a : Answer) → let r = change a s (fresh_on s.mesh s.plan) in Kept r.session (note g (mend f k) r.answer (seen s) l)
       by_answer Accepted = mend_kept K
-      by_answer (Refused number place) = K
+      by_answer (Err r) = K
   call_kept K (status k u) = K
 
   -- ---- any list of calls

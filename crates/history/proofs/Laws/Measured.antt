@@ -16,16 +16,16 @@ use Rattle.wavelengths.proofs.Laws.Wavelength.{wavelength_named}
 use Rattle.wavelengths.proofs.Laws.Next.{rest_says}
 use Rattle.mesh.specs.declared.Mesh.{Mesh}
 use Rattle.mesh.specs.declared.Plan.{Plan}
-use Rattle.mesh.specs.declared.Answer.TheVariants.{Accepted}
+use Rattle.mesh.specs.Answer.{Accepted}
 use Rattle.mesh.specs.WellFormed.{lengths}
 use Rattle.planner.specs.Plan.{planned}
-use Rattle.formed.specs.declared.Cut.TheVariants.{Link}
+use Rattle.formed.specs.Cut.{Link}
 use Rattle.refusals.specs.Refusals as refusals
 use Rattle.refusals.specs.Refusals.{standing}
 use Rattle.recovery.specs.declared.Session.{Session}
 use Rattle.recovery.specs.Session.{floods}
 use Rattle.recovery.specs.Formed.{record_answer}
-use Rattle.recovery.specs.declared.Status.TheVariants as statuses
+use Rattle.recovery.specs.Answers as outcomes
 use Rattle.recovery.specs.Calls.{digraph, resting, status_of, route_length_of, route_of}
 use Rattle.history.specs.History.{Call}
 use Rattle.history.specs.Demand.{AtRest, state_on, OnePath, Measured, ended, log}
@@ -38,12 +38,12 @@ module _ (s : Session) (accepted : record_answer s ≡ Accepted) (stands : stand
   both_rest = (rest_says (digraph s) (floods s)).1 (rest-seen s First (rest First), rest-seen s Second (rest Second))
 
   -- a status is accepted, with no link under way
-  told : (j : ℕ) → j < s.mesh.count → status_of s j (number_of w) ≡ statuses.Link (state_on s w j) 0 (route_length_of s w)
+  told : (j : ℕ) → j < s.mesh.count → status_of s j (number_of w) ≡ outcomes.Link (state_on s w j) 0 (route_length_of s w)
   unfolding status_of refusals.status_answer
   told j l =
       let (named, is) = wavelength_named w in
       rw (accepted, named, lt-ltb j s.mesh.count l, is)
-      (ap (λ (n : ℕ). statuses.Link (state_on s w j) n (route_length_of s w)) ((at-rest-activity (digraph s w) (on w (floods s))).0 (rest-seen s w (rest w))))
+      (ap (λ (n : ℕ). outcomes.Link (state_on s w j) n (route_length_of s w)) ((at-rest-activity (digraph s w) (on w (floods s))).0 (rest-seen s w (rest w))))
 
   -- the route length is that of the taken links, which the path has each once
   along : {x y : ℕ} → OnePath s w x y (route_of s w) → LengthAlong (lengths s.mesh) (route_of s w) (route_length_of s w)

@@ -1,6 +1,6 @@
 -- The links that the rules ever offered since the cut are those that are not quiet: a state never falls, and leaves 0 only for 1. Assumes 256 entries in the
 -- mesh's list of links.
-use Rattle.std.specs.Prelude.{ℕ, ◌≤◌, ◌≡◌, ◌||◌, eqb, ltb, length}
+use Rattle.std.specs.Prelude.{ℕ, ◌≤◌, ◌≡◌, ◌||◌, eqb, ltb, length, Err}
 use Rattle.std.proofs.Math.Path.{refl, subst}
 use Rattle.std.proofs.Common.{sym, ⊎_elim, arith, lt-ltb, le-ltb, eq-eqb, ne_eqb}
 use mathlib.Core.List.{List, [], ◌∷◌}
@@ -22,13 +22,11 @@ use Rattle.wavelengths.proofs.Laws.Project.{fresh_on_lem, on-begin, step-own, st
 use Rattle.wavelengths.proofs.Laws.Run.{order-accepted}
 use Rattle.mesh.specs.declared.Mesh.{Mesh}
 use Rattle.mesh.specs.declared.Plan.{Plan}
-use Rattle.mesh.specs.declared.Answer.{Answer}
-use Rattle.mesh.specs.declared.Answer.TheVariants.{Accepted, Refused}
+use Rattle.mesh.specs.Answer.{Answer, Accepted, Refused}
 use Rattle.mesh.specs.Laws.Checked.{passes}
 use Rattle.planner.specs.Plan.{planned}
 use Rattle.planner.specs.Laws.Meaning.{plan_checked}
-use Rattle.formed.specs.declared.Cut.{Cut}
-use Rattle.formed.specs.declared.Cut.TheVariants.{Link}
+use Rattle.formed.specs.Cut.{Cut, Link}
 use Rattle.recovery.specs.declared.Session.{Session}
 use Rattle.recovery.specs.Session.{floods}
 use Rattle.recovery.specs.Calls.{change}
@@ -163,7 +161,7 @@ module _ (m : Mesh) (good : (planned m).answer ≡ Accepted) (sized : length m.l
 
       by_answer : (a : Answer) → answer_of c s ≡ a → Marks (floods (change a s (made c s)).session) (changed_by arcs a o (offered_by arcs c s.cut (seen s) o))
       by_answer Accepted e = accepted_marks K c e o M
-      by_answer (Refused number place) e = M
+      by_answer (Err r) e = M
 
   -- any list of calls
   calls_mark : (cs : List Call) {s : Session} {l : Log} → Kept m plan s l → (o : Offered) → Marks (floods s) o → Marks (floods (after cs s)) (offered arcs cs (seen s) o)

@@ -1,6 +1,6 @@
 -- Demand 3: from what every call keeps follow the record tests, the bounds and the path of each wavelength, and from the record tests that the session
 -- follows the rules. Assumes 256 entries in the mesh's list of links.
-use Rattle.std.specs.Prelude.{ℕ, ◌≡◌, ◌↔◌, true, List, ◌∷◌, ◌++◌, length}
+use Rattle.std.specs.Prelude.{ℕ, ◌≡◌, ◌↔◌, true, List, ◌∷◌, ◌++◌, length, Err}
 use Rattle.std.proofs.Math.Path.{refl}
 use Rattle.std.proofs.Common.{ap, subst}
 use Rattle.scan.specs.Test.{clash}
@@ -15,8 +15,7 @@ use Rattle.wavelengths.specs.Merge.{Turn, turn, links_on, step}
 use Rattle.wavelengths.proofs.Laws.Wavelength.{wavelength_named}
 use Rattle.mesh.specs.declared.Mesh.{Mesh}
 use Rattle.mesh.specs.declared.Plan.{Plan}
-use Rattle.mesh.specs.declared.Answer.{Answer}
-use Rattle.mesh.specs.declared.Answer.TheVariants.{Accepted, Refused}
+use Rattle.mesh.specs.Answer.{Answer, Accepted, Refused}
 use Rattle.mesh.specs.WellFormed.{lengths}
 use Rattle.planner.specs.Plan.{planned}
 use Rattle.recovery.specs.declared.Change.{Change}
@@ -53,7 +52,7 @@ module _ (s : Session) (u : ℕ) where
 
       by_answer : (a : Answer) → deliver_answer s i u ≡ a → accepted (delivery_as a s i w later).answer ≡ true → UnderWay s w i
       by_answer Accepted e t = (accepts_says (digraph s w) i (on w (floods s))).0 (deliver_accepted s i u e).4
-      by_answer (Refused number place) e t = clash t refl
+      by_answer (Err r) e t = clash t refl
 
 further : (s : Session) (w : Wavelength) → record_answer s ≡ Accepted → standing s.cut ≡ true → (i : ℕ)
     → (accepted (after_delivery s i (number_of w)).answer ≡ true) ↔ UnderWay s w i

@@ -1,11 +1,10 @@
 -- A refused call leaves the session as it was, and a call on a session whose record is refused answers that refusal, whatever the session and the form of
 -- the call. Assumes nothing.
-use Rattle.std.specs.Prelude.{ℕ, ◌≡◌, refl, true, not}
+use Rattle.std.specs.Prelude.{ℕ, ◌≡◌, refl, true, not, Err}
 use Rattle.std.proofs.Common.{ap}
 use Rattle.scan.specs.Entry.{at}
 use Rattle.scan.specs.Test.{clash}
-use Rattle.mesh.specs.declared.Answer.{Answer}
-use Rattle.mesh.specs.declared.Answer.TheVariants.{Accepted, Refused}
+use Rattle.mesh.specs.Answer.{Answer, Accepted, Refused}
 use Rattle.wavelengths.specs.declared.Floods.{Floods}
 use Rattle.wavelengths.specs.declared.Wavelength.{Wavelength}
 use Rattle.wavelengths.specs.Wavelength.{wavelength_of, on}
@@ -20,16 +19,16 @@ use Rattle.history.proofs.Laws.Kept.{acted-accepted}
 
 change_keeps : (a : Answer) (s t : Session) → is_refusal (change a s t).answer ≡ true → (change a s t).session ≡ s
 change_keeps Accepted s t e = clash e refl
-change_keeps (Refused number place) s t e = refl
+change_keeps (Err r) s t e = refl
 
 delivery_keeps : (a : Answer) (s : Session) (k : ℕ) (w : Wavelength) (p : Floods)
     → not (accepted (delivery_as a s k w p).answer) ≡ true → (delivery_as a s k w p).session ≡ s
 delivery_keeps Accepted s k w p e = clash e (ap not (acted-accepted ((digraph s w).tail k) ((digraph s w).head k) (at (on w p).states k)))
-delivery_keeps (Refused number place) s k w p e = refl
+delivery_keeps (Err r) s k w p e = refl
 
 run_keeps : (n : ℕ) (a : Answer) (s : Session) (r : merge.Ran) → refused (run n) (run_as a s r).report ≡ true → (run_as a s r).session ≡ s
 run_keeps n Accepted s r e = clash e refl
-run_keeps n (Refused number place) s r e = refl
+run_keeps n (Err why) s r e = refl
 
 pub refused_keeps : (c : Call) (s : Session) → refused c (reply c s) ≡ true → next c s ≡ s
 unfolding after_cut after_delivery after_run after_mend

@@ -7,8 +7,7 @@ use Rattle.scan.specs.Test.{branch, clash}
 use Rattle.scan.specs.Entry.{replicate-at}
 use Rattle.mesh.specs.declared.Mesh.{Mesh}
 use Rattle.mesh.specs.declared.Plan.{Plan}
-use Rattle.mesh.specs.declared.Answer.{Answer}
-use Rattle.mesh.specs.declared.Answer.TheVariants.{Accepted}
+use Rattle.mesh.specs.Answer.{Answer, Accepted}
 use Rattle.mesh.specs.Laws.Answer.{and_then-accepted}
 use Rattle.mesh.specs.Laws.Checked.{Passes, passes}
 use Rattle.flood.specs.Digraph.{Digraph, Failure}
@@ -19,8 +18,7 @@ use Rattle.wavelengths.specs.Wavelength.{wavelength_of, on}
 use Rattle.wavelengths.specs.Merge as merge
 use Rattle.wavelengths.specs.Merge.{Turn, turn, busy, accepts, step, order}
 use Rattle.wavelengths.proofs.Laws.Project.{fresh_on_lem, on-begin}
-use Rattle.formed.specs.declared.Cut.{Cut}
-use Rattle.formed.specs.declared.Cut.TheVariants.{Nothing, Link}
+use Rattle.formed.specs.Cut.{Cut, Nothing, Link}
 use Rattle.formed.specs.Formed as formed
 use Rattle.refusals.specs.Refusals as refusals
 use Rattle.refusals.specs.Refusals.{standing, is_cut}

@@ -1,12 +1,11 @@
 -- The next session: a call changes the session where it accepts, and then as the rules do; it keeps the mesh, the plan and the lists' lengths.
 -- Assumes nothing.
-use Rattle.std.specs.Prelude.{ℕ, ◌≡◌, refl, false, List, [], ◌∷◌}
+use Rattle.std.specs.Prelude.{ℕ, ◌≡◌, refl, false, List, [], ◌∷◌, Err}
 use Rattle.std.proofs.Common.{sym, ◌∙◌, ap, subst}
 use Rattle.std.proofs.lemmas.List.{length-replicate}
 use Rattle.mesh.specs.declared.Mesh.{Mesh}
 use Rattle.mesh.specs.declared.Plan.{Plan}
-use Rattle.mesh.specs.declared.Answer.{Answer}
-use Rattle.mesh.specs.declared.Answer.TheVariants.{Accepted, Refused}
+use Rattle.mesh.specs.Answer.{Answer, Accepted, Refused}
 use Rattle.flood.specs.Digraph.{Failure}
 use Rattle.flood.specs.Digraph as failures
 use Rattle.flood.specs.Machine.{fresh}
@@ -35,18 +34,18 @@ next_is (deliver f k u) s = go (answer_of (deliver f k u) s) _
   where
     go : (a : Answer) (p : Floods) → (delivery_as a s k (wavelength_of u) p).session ≡ (change a s (with_floods s p)).session
     go Accepted p = refl
-    go (Refused number place) p = refl
+    go (Err r) p = refl
 next_is (run n) s = go (answer_of (run n) s) _
   where
     go : (a : Answer) (r : merge.Ran) → (run_as a s r).session ≡ (change a s (with_floods s r.floods)).session
     go Accepted r = refl
-    go (Refused number place) r = refl
+    go (Err why) r = refl
 next_is (mend f k) s = refl
 next_is (status k u) s = go (answer_of (status k u) s)
   where
     go : (a : Answer) → s ≡ (change a s s).session
     go Accepted = refl
-    go (Refused number place) = refl
+    go (Err r) = refl
 
 -- ---- what a call keeps
 
@@ -56,7 +55,7 @@ next_keeps P c s p q = subst P (sym (next_is c s)) (go (answer_of c s))
   where
     go : (a : Answer) → P (change a s (made c s)).session
     go Accepted = q
-    go (Refused number place) = p
+    go (Err r) = p
 
 pub next-mesh-plan : (c : Call) (s : Session) → ((next c s).mesh ≡ s.mesh) × ((next c s).plan ≡ s.plan)
 next-mesh-plan c s = next_keeps (λ t. (t.mesh ≡ s.mesh) × (t.plan ≡ s.plan)) c s (refl, refl) (go c)
@@ -112,4 +111,4 @@ next-seen s z r c =
   where
     go : (a : Answer) (n : Now) → (a ≡ Accepted → seen (made c s) ≡ n) → seen (change a s (made c s)).session ≡ changed_by (arcs s) a (seen s) n
     go Accepted n h = h refl
-    go (Refused number place) n h = refl
+    go (Err r) n h = refl

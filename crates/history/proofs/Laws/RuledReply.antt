@@ -1,11 +1,10 @@
 -- What a call answers: the refusal of the rules, or what they answer of the session that they make. Assumes nothing.
-use Rattle.std.specs.Prelude.{ℕ, ◌≡◌}
+use Rattle.std.specs.Prelude.{ℕ, ◌≡◌, Err}
 use Rattle.std.proofs.Math.Path.{refl, ap}
 use Rattle.std.proofs.Common.{◌∙◌, ap₂}
 use mathlib.Core.List.{List}
 use Rattle.std.proofs.Math.ListN.{length}
-use Rattle.mesh.specs.declared.Answer.{Answer}
-use Rattle.mesh.specs.declared.Answer.TheVariants.{Accepted, Refused}
+use Rattle.mesh.specs.Answer.{Answer, Accepted, Refused}
 use Rattle.mesh.specs.WellFormed.{lengths}
 use Rattle.flood.specs.Digraph.{Digraph}
 use Rattle.flood.specs.Machine.{under_way, activity}
@@ -17,7 +16,7 @@ use Rattle.wavelengths.specs.Merge.{Turn}
 use Rattle.wavelengths.proofs.Laws.Run.{order-accepted}
 use Rattle.recovery.specs.declared.Session.{Session}
 use Rattle.recovery.specs.Session.{floods}
-use Rattle.recovery.specs.declared.Report.TheVariants as report
+use Rattle.recovery.specs.Answers as outcomes
 use Rattle.recovery.specs.Formed.{record_answer}
 use Rattle.recovery.specs.Calls.{digraph, failure, change, delivery_as, run_as, status_as}
 use Rattle.recovery.specs.Calls.{deliver_answer, run_answer, status_answer, after_cut, after_delivery, after_run, after_mend, status_of}
@@ -34,23 +33,23 @@ module _ (s : Session) where
   -- the answers by the outcome of the tests
   change-answer : (a : Answer) (t : Session) → (change a s t).answer ≡ a
   change-answer Accepted t = refl
-  change-answer (Refused number place) t = refl
+  change-answer (Err r) t = refl
 
   delivery_reply : (a : Answer) (k : ℕ) (w : Wavelength) (p : Floods) (n : Now) → (a ≡ Accepted → seen_of s.cut p ≡ n)
       → (delivery_as a s k w p).answer ≡ deliver_reply g a k w (changed_by g a (seen s) n)
   delivery_reply Accepted k w p n h = ap (deliver_reply g Accepted k w) (h refl)
-  delivery_reply (Refused number place) k w p n h = refl
+  delivery_reply (Err r) k w p n h = refl
 
   run-reply : (a : Answer) (r : merge.Ran) (ts : List Turn) (n : Now) → (a ≡ Accepted → seen_of s.cut r.floods ≡ n) → (a ≡ Accepted → r.made ≡ length ts)
       → (run_as a s r).report ≡ run_reply g a ts (changed_by g a (seen s) n)
   run-reply Accepted r ts n h e =
-      ap (report.Made r.made) (rests_ruled g s.cut r.floods) ∙ ap₂ (λ (m : ℕ) (now : Now). report.Made m (rest g now)) (e refl) (h refl)
-  run-reply (Refused number place) r ts n h e = refl
+      ap (outcomes.Made r.made) (rests_ruled g s.cut r.floods) ∙ ap₂ (λ (m : ℕ) (now : Now). outcomes.Made m (rest g now)) (e refl) (h refl)
+  run-reply (Err why) r ts n h e = refl
 
   status_reply_lem : (a : Answer) (k : ℕ) (w : Wavelength) → status_as a s k w ≡ status_reply g (lengths s.mesh) a k w (seen s)
   unfolding under_way activity
   status_reply_lem Accepted k w = rw (stands_is g s.cut, rests_ruled g s.cut (floods s))
-  status_reply_lem (Refused number place) k w = refl
+  status_reply_lem (Err r) k w = refl
 
   module _ (z : Sized s) (r : record_answer s ≡ Accepted) where
     -- a run makes as many deliveries as the rules make

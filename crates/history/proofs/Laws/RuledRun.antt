@@ -23,7 +23,7 @@ use Rattle.wavelengths.specs.Merge.{Turn, turn, links_on, busy, at_rest, accepts
 use Rattle.wavelengths.proofs.Laws.Wavelength.{same_is}
 use Rattle.wavelengths.proofs.Laws.Project.{step-own, step_other, play-on}
 use Rattle.wavelengths.proofs.Laws.Next.{next-accepted}
-use Rattle.formed.specs.declared.Cut.{Cut}
+use Rattle.formed.specs.Cut.{Cut}
 use Rattle.history.specs.Rules.{Now, moving, deliver_rule, turn_rule, rest, next_turn, run_turns, turns_rule}
 use Rattle.history.proofs.Laws.RuledTests.{shown, rest_is}
 use Rattle.history.proofs.Laws.RuledSteps.{step-ruled}

@@ -27,11 +27,9 @@ use Rattle.wavelengths.proofs.Laws.Run.{order-on}
 use Rattle.wavelengths.proofs.Laws.Rest.{share_within}
 use Rattle.mesh.specs.declared.Mesh.{Mesh}
 use Rattle.mesh.specs.declared.Plan.{Plan}
-use Rattle.mesh.specs.declared.Answer.{Answer}
-use Rattle.mesh.specs.declared.Answer.TheVariants.{Accepted, Refused}
+use Rattle.mesh.specs.Answer.{Answer, Accepted, Refused}
 use Rattle.planner.specs.Plan.{planned}
-use Rattle.formed.specs.declared.Cut.{Cut}
-use Rattle.formed.specs.declared.Cut.TheVariants.{Nothing, Link}
+use Rattle.formed.specs.Cut.{Cut, Nothing, Link}
 use Rattle.refusals.specs.Refusals as refusals
 use Rattle.recovery.specs.declared.Change.{Change}
 use Rattle.recovery.specs.declared.Delivery.{Delivery}

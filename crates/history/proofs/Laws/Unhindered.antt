@@ -22,10 +22,10 @@ use Rattle.wavelengths.proofs.Laws.Project.{fresh_on_lem, on-begin}
 use Rattle.wavelengths.proofs.Laws.Rest.{links_rest, run_rests}
 use Rattle.mesh.specs.declared.Mesh.{Mesh}
 use Rattle.mesh.specs.declared.Plan.{Plan}
-use Rattle.mesh.specs.declared.Answer.TheVariants.{Accepted}
+use Rattle.mesh.specs.Answer.{Accepted}
 use Rattle.planner.specs.Plan.{planned}
-use Rattle.formed.specs.declared.Cut.TheVariants.{Link}
-use Rattle.recovery.specs.declared.Report.TheVariants as report
+use Rattle.formed.specs.Cut.{Link}
+use Rattle.recovery.specs.Answers as outcomes
 use Rattle.recovery.specs.declared.Run.{Run}
 use Rattle.recovery.specs.declared.Session.{Session}
 use Rattle.recovery.specs.Session.{floods}
@@ -87,10 +87,10 @@ module _ (m : Mesh) (sized : length m.links ≡ 256) (good : (planned m).answer 
     run-resting : (w : Wavelength) → AtRest (next (run a) s) w
     run-resting w = subst (λ (r : Run). AtRest r.session w) (sym (run_is m sized good q a)) (seen-rest (with_floods s ran.floods) w (both_rest w))
 
-    run_report : reply (run a) s ≡ report.Made ran.made true
+    run_report : reply (run a) s ≡ outcomes.Made ran.made true
     run_report =
         ap (λ (r : Run). r.report) (run_is m sized good q a)
-        ∙ ap (report.Made ran.made) ((rest_says g ran.floods).1 (both_rest First, both_rest Second))
+        ∙ ap (outcomes.Made ran.made) ((rest_says g ran.floods).1 (both_rest First, both_rest Second))
 
 pub runs_out : (m : Mesh) → length m.links ≡ 256 → (planned m).answer ≡ Accepted → (calls : List Call) (k : ℕ) → (log m calls).cut ≡ Link k
     → (a : ℕ) → 4 * m.count ≤ a → (w : Wavelength) → RunsOut m calls w a
@@ -107,9 +107,9 @@ runs_out m sized good calls k stands a enough w =
 
 -- it reports that nothing is under way on either
 pub reports_rest : (m : Mesh) → length m.links ≡ 256 → (planned m).answer ≡ Accepted → (calls : List Call) (k : ℕ) → (log m calls).cut ≡ Link k
-    → (a : ℕ) → 4 * m.count ≤ a → (n : ℕ) × (reply (run a) (ended m calls) ≡ report.Made n true)
+    → (a : ℕ) → 4 * m.count ≤ a → (n : ℕ) × (reply (run a) (ended m calls) ≡ outcomes.Made n true)
 reports_rest m sized good calls k stands a enough =
-    kept-cut m (planned m).plan (λ s k ts. (n : ℕ) × (reply (run a) s ≡ report.Made n true)) (λ k ts q. (_, run_report m sized good a enough q))
+    kept-cut m (planned m).plan (λ s k ts. (n : ℕ) × (reply (run a) s ≡ outcomes.Made n true)) (λ k ts q. (_, run_report m sized good a enough q))
     (ended-kept m good sized calls) k stands
 
 -- right after the cut of a link it makes as many deliveries on a wavelength as that wavelength's own run

@@ -14,13 +14,12 @@ use Rattle.flood.specs.Digraph as failures
 use Rattle.flood.specs.Machine.{offer, opens, accepts, arrive, step}
 use Rattle.flood.specs.Laws.Tests.{Opens, some-opens_says, length-offer}
 use Rattle.flood.specs.Laws.Ways.{withdraw_ways}
-use Rattle.mesh.specs.declared.Answer.TheVariants.{Accepted}
+use Rattle.mesh.specs.Answer.{Accepted}
 use Rattle.wavelengths.specs.declared.Wavelength.{Wavelength}
 use Rattle.wavelengths.specs.Wavelength.{wavelength_of, on}
 use Rattle.wavelengths.specs.Merge as merge
 use Rattle.wavelengths.proofs.Laws.Wavelength.{on-put-own}
-use Rattle.formed.specs.declared.Cut.{Cut}
-use Rattle.formed.specs.declared.Cut.TheVariants.{Link}
+use Rattle.formed.specs.Cut.{Cut, Link}
 use Rattle.recovery.specs.declared.Delivered.TheVariants.{Taken, TurnedBack, Released}
 use Rattle.recovery.specs.declared.Session.{Session}
 use Rattle.recovery.specs.Session.{floods}

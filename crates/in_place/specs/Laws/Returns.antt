@@ -1,13 +1,9 @@
--- The session as a state, and what the calls by value return: a change by cut and mend, a delivery by deliver.
+-- The session as a state, and the delivery that deliver returns, in the words of `lent`.
 use Rattle.std.specs.Prelude.{refl}
 use Rattle.lent.specs.Returned.{State, Returned}
-use Rattle.mesh.specs.contracts.Answer as answer
-use Rattle.mesh.proofs.Answer.TheLaws as answer-laws
-use Rattle.recovery.specs.declared.Change.{Change}
 use Rattle.recovery.specs.declared.Delivery.{Delivery}
 use Rattle.recovery.specs.contracts.Session as session
 use Rattle.recovery.proofs.Session.TheLaws as session-laws
-use Rattle.recovery.specs.contracts.Change as change
 use Rattle.recovery.specs.contracts.Delivered as delivered
 use Rattle.recovery.proofs.Delivered.TheLaws as delivered-laws
 use Rattle.recovery.specs.contracts.Delivery as delivery
@@ -19,23 +15,6 @@ of_session = record {
   plain = session-laws.the_plain;
   copy = session-laws.the_copy;
   lowers = session-laws.lowers;
-}
-
-abbrev pub of_change : Returned of_session
-of_change = record {
-  E = answer.the_type;
-  laws = answer-laws.the_laws;
-  plain = answer-laws.the_plain;
-  few = tt;
-  lowers = answer-laws.lowers;
-  name = (change.struct).name;
-  D = Change;
-  state = λ d. d.session;
-  answer = λ d. d.answer;
-  make = λ s a. record { session = s; answer = a };
-  eta = λ d. refl;
-  beta = λ v. refl;
-  propositions = change.the_propositions;
 }
 
 abbrev pub of_delivery : Returned of_session

@@ -1,8 +1,7 @@
 -- Each call first tests its record: where that is refused, so is the call, with the same number and place. Assumes nothing.
 use Rattle.std.specs.Prelude.{ℕ, ◌≡◌}
 use Rattle.std.proofs.Common.{ap}
-use Rattle.mesh.specs.declared.Answer.{Answer}
-use Rattle.mesh.specs.declared.Answer.TheVariants.{Refused}
+use Rattle.mesh.specs.Answer.{Answer, Refused}
 use Rattle.mesh.specs.Mesh.{and_then}
 use Rattle.legacy.specs.declared.OldSession.{OldSession}
 use Rattle.legacy.specs.Record.{record_answer}

@@ -1,16 +1,16 @@
--- `lists::put_answer` meets its contract: four stores in a row.
+-- `lists::put_answer` meets its contract: the four numbers stand where four stores in a row put them.
+use Prim.Native.Nat.{◌+◌, ◌-◌}
+use mathlib.Core.Path.{◌≡◌, sym, ◌∙◌}
 use native.Mathlib.Omega.{arith}
-use native.Mathlib.Numerals.{add-one, add-two, add-three}
-use lib.ListN.{length-set}
+use Rattle.std.proofs.Common.{append_assoc, take, drop, drop-drop}
+use Rattle.std.proofs.lemmas.List.Edits.{sets-eq}
+use Rattle.lists.specs.Lists.{list_of}
 use Rattle.lists.proofs.put_answer.Goals as goal
-
-pub bounds-out-at-2 : goal.bounds-out-at-2
-bounds-out-at-2 c = simp length-set (omega arith)
-
-pub bounds-out-at-3 : goal.bounds-out-at-3
-bounds-out-at-3 c = simp length-set (omega arith)
 
 pub returns : goal.returns
 returns c =
+    let out = c.args.out.now in
     let at = c.args.at in
-    rw (add-one at, add-two at, add-three at)
+    let a = list_of c.args.a in
+    let four : at + 4 - at ≡ 4 = omega arith in
+    rw (c.copy_from_slice.ensures.after, four, drop-drop) (sym (sets-eq a out at (omega arith) ∙ append_assoc (take at out) a (drop (at + 4) out)))

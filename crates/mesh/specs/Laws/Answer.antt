@@ -1,9 +1,8 @@
 -- What an answer tells of the tests behind it. Assumes nothing.
-use Rattle.std.specs.Prelude.{ℕ, ◌≡◌, refl, Bool, true, false, List, length, take, drop}
+use Rattle.std.specs.Prelude.{ℕ, ◌≡◌, refl, Bool, true, false, List, length, take, drop, Err}
 use Rattle.std.proofs.Common.{arith}
 use Rattle.std.proofs.Math.Seq.{take-append_seam, drop-append_seam}
-use Rattle.mesh.specs.declared.Answer.{Answer}
-use Rattle.mesh.specs.declared.Answer.TheVariants.{Accepted, Refused}
+use Rattle.mesh.specs.Answer.{Answer, Accepted, Refused}
 use Rattle.mesh.specs.Mesh.{must, and_then, output_as}
 
 -- no answer is both
@@ -16,7 +15,7 @@ must-accepted false number place next e = refused-accepted e
 
 pub and_then-accepted : (a next : Answer) → and_then a next ≡ Accepted → (a ≡ Accepted) × (next ≡ Accepted)
 and_then-accepted Accepted next e = (refl, e)
-and_then-accepted (Refused number place) next e = refused-accepted e
+and_then-accepted (Err r) next e = refused-accepted e
 
 -- what an answer tells: A where it accepts, R of its number and place where it refuses
 pub data Tells (A : Type 0) (R : ℕ → ℕ → Type 0) : Answer → Type 0 where
@@ -26,7 +25,7 @@ pub data Tells (A : Type 0) (R : ℕ → ℕ → Type 0) : Answer → Type 0 whe
 -- an answer tells of itself
 pub tells_itself : (a : Answer) → Tells (a ≡ Accepted) (λ number place. a ≡ Refused number place) a
 tells_itself Accepted = accepting refl
-tells_itself (Refused number place) = refusing refl
+tells_itself (Err r) = refusing refl
 
 module _ {A : Type 0} {R : ℕ → ℕ → Type 0} where
   pub told-accepted : Tells A R Accepted → A

@@ -5,7 +5,7 @@ use Rattle.std.proofs.Math.Decide.{dec_lt}
 use Rattle.std.proofs.Math.ListN.{get_or-eq_default}
 use Rattle.mesh.specs.declared.Link.{Link}
 use Rattle.mesh.specs.declared.Mesh.{Mesh}
-use Rattle.mesh.specs.declared.Answer.TheVariants.{Accepted}
+use Rattle.mesh.specs.Answer.{Accepted}
 use Rattle.mesh.specs.Mesh.{zero_link, mesh_answer}
 use Rattle.mesh.specs.WellFormed.{link, Rises, WellFormed}
 use Rattle.mesh.specs.Refusal.{LinkFault, low_not_below_high, end-not_below_nodes, pair_below, Faultless, previous}

@@ -6,8 +6,7 @@ use Rattle.std.proofs.Math.Decide.{dec_lt}
 use Rattle.std.proofs.Math.Dec.{ltb}
 use borrow.Author.Tests.{ltb-true, ltb-false, lt-ltb}
 use Rattle.scan.specs.Test.{branch, fails, failing, Says, lt_says, le_says, eq_says, and_says, or_says}
-use Rattle.mesh.specs.declared.Answer.{Answer}
-use Rattle.mesh.specs.declared.Answer.TheVariants.{Accepted, Refused}
+use Rattle.mesh.specs.Answer.{Answer, Accepted, Refused}
 use Rattle.mesh.specs.Mesh.{follows, ends_answer}
 use Rattle.mesh.specs.WellFormed.{NotBelow}
 use Rattle.mesh.specs.Refusal.{Below, EndsFault, low_not_below_high, end-not_below_nodes, pair_below}

@@ -4,7 +4,7 @@ use Rattle.std.proofs.Math.Bool.{and-eq-true_iff}
 use Rattle.std.proofs.Common.{arith}
 use Rattle.mesh.specs.declared.Link.{Link}
 use Rattle.mesh.specs.declared.Mesh.{Mesh}
-use Rattle.mesh.specs.declared.Answer.TheVariants.{Accepted}
+use Rattle.mesh.specs.Answer.{Accepted}
 use Rattle.mesh.specs.Mesh.{zero_link, nodes_fit, count_fits, link_answer, links_answer, all_zero, ductless, rest_zero, mesh_answer}
 use Rattle.mesh.specs.Laws.Answer.{must-accepted, and_then-accepted}
 use Rattle.mesh.specs.Laws.Ends.{ends-accepted}

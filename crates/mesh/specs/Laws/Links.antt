@@ -5,7 +5,7 @@ use Rattle.std.proofs.Common.{arith, eq-eqb, ne_eqb}
 use Rattle.scan.specs.All.{all-step}
 use Rattle.scan.specs.Part.{drop-take, drop-take-end}
 use Rattle.mesh.specs.declared.Link.{Link}
-use Rattle.mesh.specs.declared.Answer.TheVariants.{Accepted}
+use Rattle.mesh.specs.Answer.{Accepted}
 use Rattle.mesh.specs.Mesh.{zero_link, link_answer, and_then, links_answer, is_zero, all_zero}
 
 module _ (n : ℕ) (p : Link) (links : List Link) (k i : ℕ) where

@@ -12,8 +12,7 @@ use Rattle.scan.specs.Fill.{table_is, table_filled}
 use Rattle.ends.specs.Ends.{low_of, high_of, Fits, Rising}
 use Rattle.mesh.specs.declared.Link.{Link}
 use Rattle.mesh.specs.declared.Mesh.{Mesh}
-use Rattle.mesh.specs.declared.Answer.{Answer}
-use Rattle.mesh.specs.declared.Answer.TheVariants.{Accepted, Refused}
+use Rattle.mesh.specs.Answer.{Answer, Accepted, Refused}
 use Rattle.mesh.specs.Mesh.{must, and_then, zero_link, nodes_fit, count_fits, ends_answer, link_answer, links_answer, mesh_answer}
 use Rattle.mesh.specs.WellFormed.{link, InRange}
 use Rattle.mesh.specs.Refusal.{previous}

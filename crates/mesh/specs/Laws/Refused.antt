@@ -6,8 +6,7 @@ use Rattle.scan.specs.Test.{branch, known, fails, Says, eq_says, le_says, and_sa
 use Rattle.scan.specs.All.{all-drop-each, all-drop_fails}
 use Rattle.mesh.specs.declared.Link.{Link}
 use Rattle.mesh.specs.declared.Mesh.{Mesh}
-use Rattle.mesh.specs.declared.Answer.{Answer}
-use Rattle.mesh.specs.declared.Answer.TheVariants.{Refused}
+use Rattle.mesh.specs.Answer.{Answer, Refused}
 use Rattle.mesh.specs.Mesh.{zero_link, nodes_fit, count_fits, links_answer, is_zero, all_zero, rest_zero, mesh_answer}
 use Rattle.mesh.specs.WellFormed.{link, duct}
 use Rattle.mesh.specs.Refusal.{LinkFault, Faultless, previous, Refusal, nodes_unfit, count_unfit, first_fault, entry-not-zero, duct-not-zero}

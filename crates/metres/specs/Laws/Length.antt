@@ -10,7 +10,7 @@ use Rattle.scan.specs.Lowest.{any, any-zero, any_says}
 use Rattle.scan.specs.Total.{total}
 use Rattle.scan.specs.Distinct.{Distinct, total_distinct}
 use Rattle.scan.specs.Listed.{Listing, total_listed, any_listed}
-use Rattle.metres.specs.declared.Length.TheVariants.{Metres, NotKnown}
+use Rattle.metres.specs.Known.{Metres, NotKnown}
 use Rattle.metres.specs.Length.{length_of, LengthAlong}
 
 -- no link: 0 metres

@@ -5,7 +5,7 @@ use Rattle.std.proofs.Math.Path.{ap₂}
 use Rattle.std.proofs.Math.Bool.{cond}
 use Rattle.scan.specs.Lowest.{any, any-zero, any-turn}
 use Rattle.scan.specs.Total.{total, total-next}
-use Rattle.metres.specs.declared.Length.TheVariants.{Metres, NotKnown}
+use Rattle.metres.specs.Known.{Metres, NotKnown}
 use Rattle.metres.specs.Length.{length_of}
 
 module _ (length : ℕ → ℕ) where

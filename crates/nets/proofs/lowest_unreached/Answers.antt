@@ -1,30 +1,15 @@
-use mathlib.Core.Path.{sym, ◌∙◌}
-use native.Mathlib.Omega.{arith}
-use Rattle.scan.specs.Lowest.{none_yet, none_next, lowest_found, lowest_none}
+-- `nets::lowest_unreached` meets its contract: the search through the nodes stops at the lowest that is not among those the search from node 0 comes to.
+use Rattle.std.proofs.Common.{rules, ℕ, ◌≡◌, ◌%◌, Bool, true, false, not}
+use Rattle.std.proofs.lemmas.Iterator.{first_from_Range}
+use Rattle.scan.specs.Bits.{has}
+use Rattle.nets.specs.Laws.Finds.{lowest_of-found}
 use Rattle.nets.proofs.lowest_unreached.Goals as goal
-
-pub loop-v-init : goal.loop-v-init
-loop-v-init c = (omega arith, none_yet _)
-
-pub returns-then-not-has_node : goal.returns-then-not-has_node
-returns-then-not-has_node c =
-    let l = c.loop-v in
-    record {
-      reached = c.spread-reached.result;
-      spread = c.spread-reached.ensures;
-      found = sym (lowest_found _ _ l.v (omega (arith, c.loop-v-test.true)) l.invariant.1 (rw c.has_node.ensures at c.if-not-has_node.true-raw));
-    }
-
-pub loop-v-preserved : goal.loop-v-preserved
-loop-v-preserved c =
-    let l = c.loop-v in
-    (omega arith, none_next _ _ l.invariant.1 (rw c.has_node.ensures at c.if-not-has_node.false-raw))
 
 pub returns : goal.returns
 returns c =
-    let l = c.loop-v in
+    let p : ℕ → Bool = λ w. not (has c.spread-reached.result (w % 64)) in
     record {
       reached = c.spread-reached.result;
       spread = c.spread-reached.ensures;
-      found = omega arith ∙ sym (lowest_none _ _ l.v (omega arith) l.invariant.1);
+      found = lowest_of-found p _ _ (first_from_Range _ _ _ _ (λ v. p v ≡ true) (λ v. p v ≡ false) c.find.ensures.ran (λ x q h. search rules) (λ x q h. search rules));
     }

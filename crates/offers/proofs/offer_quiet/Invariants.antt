@@ -1,23 +1,6 @@
--- `offers::offer_quiet` meets its contract. The loop keeps that the entries below i are as the pass leaves them, and whether one of them passed.
-use Prim.Native.Nat.{ℕ, ◌-◌, ◌≤◌}
-use mathlib.Core.Path.{◌≡◌}
-use mathlib.Core.Bool.{cond}
-use mathlib.Core.List.{List}
-use Rattle.scan.specs.Entry.{at}
-use Rattle.scan.specs.Lowest.{any}
-use Rattle.scan.specs.Sweep.{sweep_to}
-use Rattle.flood.specs.Lent.{opening}
+-- `offers::offer_quiet` meets its contract: a quiet state passes.
+use lib.Dec.{eqb}
 use Rattle.offers.proofs.offer_quiet.Given as goal
 
--- what becomes of an entry
-abbrev pub new : List ℕ → List ℕ → ℕ → ℕ → ℕ → ℕ
-new tails starts a i v = cond (opening tails starts a i v) 1 v
-
-abbrev pub invariant-loop-i : goal.invariant-loop-i
-invariant-loop-i l =
-    (l.i ≤ l.links)
-    × (l.states ≡ sweep_to (new l.tails l.starts l.a) l.i l.initial.states)
-    × (l.found ≡ any (λ j. opening l.tails l.starts l.a j (at l.initial.states j)) l.i)
-
-abbrev pub decreases-loop-i : goal.decreases-loop-i
-decreases-loop-i l = l.links - l.i
+abbrev pub ghost-offer : goal.ghost-offer
+ghost-offer a v = eqb v 0

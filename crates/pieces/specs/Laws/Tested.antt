@@ -3,14 +3,13 @@ use Rattle.std.specs.Prelude.{ℕ, ◌<◌, ◌≡◌, refl, Bool, true, List, r
 use Rattle.std.proofs.Common.{◌∙◌}
 use Rattle.scan.specs.Test.{clash}
 use Rattle.mesh.specs.declared.Mesh.{Mesh}
-use Rattle.mesh.specs.declared.Answer.{Answer}
-use Rattle.mesh.specs.declared.Answer.TheVariants.{Accepted}
+use Rattle.mesh.specs.Answer.{Answer, Accepted}
 use Rattle.mesh.specs.WellFormed.{InRange}
-use Rattle.mesh.specs.Parts.{ends_into, rest_zero, parts_answer}
+use Rattle.mesh.specs.Parts.{ends_into, ends_in, rest_zero, parts_answer}
 use Rattle.mesh.specs.Laws.Parts.{ends_in_lem}
 use Rattle.wavelengths.specs.declared.Floods.{Floods}
-use Rattle.formed.specs.declared.Cut.{Cut}
-use Rattle.formed.specs.declared.Cut.TheVariants as cuts
+use Rattle.formed.specs.Cut.{Cut}
+use Rattle.formed.specs.Cut as cuts
 use Rattle.formed.specs.Formed.{cut_link}
 use Rattle.formed.specs.Pieces.{record_after}
 use Rattle.formed.specs.Laws.Forming.{record_mesh, record_cut}
@@ -37,13 +36,14 @@ module _ (m : Mesh) (ends : List ℕ) (zeros : Bool) (split : Split m ends zeros
       ∙ (λ j. record_after (parts_answer m.nodes m.count (split.0 j) ((split.1.0 ∙ ends_in_lem m) j)) m.nodes m.count directions c f)
       ∙ record_pieces m (record { directions = directions }) c f split.1.1
 
-  -- what is given where the record is accepted: a link to cut, or the cut that stands
+-- what is given where the record is accepted, with the ends of the mesh's links: a link to cut, or the cut that stands
+module _ (m : Mesh) (ends : List ℕ) (stored : ends ≡ ends_in m) (ranges : InRange m) (directions : List ℕ) (c : Cut) (f : Floods) where
   given : (k : ℕ) → tested m directions c f ≡ Accepted → k < m.count → Given m m.count ends k
   given k r below = record {
     accepted = record_mesh m (record { directions = directions }) c f r;
-    ranges = split.1.1;
+    ranges = ranges;
     counted = refl;
-    stored = split.1.0 ∙ ends_in_lem m;
+    stored = stored;
     link = below;
   }
 

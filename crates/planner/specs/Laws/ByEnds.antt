@@ -6,8 +6,7 @@ use Rattle.scan.specs.Lowest.{lowest, any}
 use Rattle.graph.specs.Net.{Net}
 use Rattle.graph.specs.Plan.{unreached, parts, plan}
 use Rattle.mesh.specs.declared.Mesh.{Mesh}
-use Rattle.mesh.specs.declared.Answer.{Answer}
-use Rattle.mesh.specs.declared.Answer.TheVariants.{Accepted}
+use Rattle.mesh.specs.Answer.{Answer, Accepted}
 use Rattle.mesh.specs.Mesh.{must, and_then, mesh_answer}
 use Rattle.mesh.specs.WellFormed.{SameEnds}
 use Rattle.mesh.specs.Laws.ByEnds.{same_low, same_high}

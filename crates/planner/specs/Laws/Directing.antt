@@ -1,13 +1,14 @@
 -- The pass over the links as the code makes it: link k's two ways are shut in both tables, and by what the searches then say one of them is opened again, which is
 -- the greedy direction, or link k is a bridge. Assumes nothing.
-use Rattle.std.specs.Prelude.{ℕ, suc, ◌+◌, ◌-◌, ◌/◌, ◌%◌, ◌<◌, ◌≤◌, ◌≡◌, refl, Bool, true, false, not, List, [], ◌∷◌, ◌++◌, set, replicate}
-use Rattle.std.proofs.Common.{sym, ◌∙◌, ap, append_assoc, arith, add-one, le_refl}
+use Rattle.std.specs.Prelude.{ℕ, suc, ◌+◌, ◌-◌, ◌/◌, ◌%◌, ◌<◌, ◌≤◌, ◌≡◌, refl, Bool, true, false, not, Option, Some, Result, Ok, Err, List, [], ◌∷◌, ◌++◌, set, replicate}
+use Rattle.std.specs.Prelude as option
+use Rattle.std.proofs.Common.{sym, ◌∙◌, append_assoc, arith, add-one, le_refl}
 use Rattle.std.proofs.Math.Logic.Iff
 use Rattle.std.proofs.lemmas.Bool.{false≢true}
 use Rattle.std.proofs.lemmas.List.{set_at}
 use Rattle.scan.specs.Test.{Says}
 use Rattle.scan.specs.Entry.{at}
-use Rattle.scan.specs.Lowest.{None, none_yet, none_next, lowest_found, lowest_none}
+use Rattle.scan.specs.Lowest.{None, none_yet, none_next, lowest_found, any_found, any_none}
 use Rattle.mesh.specs.declared.Mesh.{Mesh}
 use Rattle.mesh.specs.WellFormed.{link}
 use Rattle.graph.specs.Net.{Net, Fits, end, Ways, Strong, both_ways, without, code}
@@ -21,7 +22,7 @@ use Rattle.nets.specs.Parallel.{Ordered}
 use Rattle.nets.specs.Laws.Fits.{well_formed_fits}
 use Rattle.nets.specs.Laws.Ordered.{well_formed_ordered}
 use Rattle.nets.specs.Laws.Table.{opened_says}
-use Rattle.planner.specs.Search.{Given, Directs}
+use Rattle.planner.specs.Search.{Given, directed}
 use Rattle.planner.specs.Parallel.{Earlier, Later}
 use Rattle.planner.specs.Laws.Stored.{ends_counted, later_says}
 use Rattle.planner.specs.Laws.Parallel.{stays}
@@ -56,20 +57,17 @@ module _ {G : Net} (F : Fits G) (n : G.nodes ≤ 64) (O : Ordered G) (k : ℕ) (
     unbridged : bridge G k ≡ false
     tables : Tables G (begun G (suc k)) x y
 
-  got : {d : ℕ} {x y : List ℕ} → Directed out into (G.low k) (G.high k) d x y → (d ≡ 2 → ⊥) → Got d x y
-  got (up w) n =
+  got : {d : ℕ} {x y : List ℕ} → Directed out into (G.low k) (G.high k) (Some d) x y → Got d x y
+  got (up w) =
       let p = found rest_tables w in
       let q = next_up F k h p in
       record { direction_is = sym q; unbridged = unbridged_up F k h (begun G k) p; tables = next_tables false q }
-  got (down v w) n =
+  got (down v w) =
       let q = next_down F k h (none_found rest_tables v) in
       record { direction_is = sym q; unbridged = unbridged_down F k h (begun G k) (found rest_tables w); tables = next_tables true q }
-  got (stuck v w) n = absurd (n refl)
 
-  got_none : Strong G both_ways → None (bridge G) k → {d : ℕ} {x y : List ℕ} → Directed out into (G.low k) (G.high k) d x y → d ≡ 2 → bridge G k ≡ true
-  got_none c f (up w) q = absurd (omega arith)
-  got_none c f (down v w) q = absurd (omega arith)
-  got_none c f (stuck v w) q = stuck_bridge F c k h f (none_found rest_tables v) (none_found rest_tables w)
+  got_none : Strong G both_ways → None (bridge G) k → {x y : List ℕ} → Directed out into (G.low k) (G.high k) option.None x y → bridge G k ≡ true
+  got_none c f (stuck v w) = stuck_bridge F c k h f (none_found rest_tables v) (none_found rest_tables w)
 
 -- ---- all links
 
@@ -111,43 +109,40 @@ module _ {m : Mesh} {count : ℕ} {ends ways : List ℕ} (Q : Given m count ends
   whole j l = parts_is j (omega (arith, D.within)) ∙ D.unbridged j l
 
   -- link k's turn, with the flag and what the code gives the link, whose ends count as themselves
-  module _ (h : k < count) {after : Bool} (A : Says after ((k < 255) × (at ends k ≡ at ends (k + 1)))) {low high : ℕ}
-      (low-is : low ≡ at ends k / 256) (high_is : high ≡ at ends k % 256) {d : ℕ} {x y : List ℕ}
-      (R : LinkDirected t e (low % 64) (high % 64) before after d x y) where
+  module _ (h : k < count) {after : Bool} (A : Says after ((k < 255) × (at ends k ≡ at ends (k + 1)))) where
     inside : k < m.count
     inside = rw Q.counted at h
 
     later : Says after (Later (net_of m) k)
     later = later_says Q.formed k inside (rw Q.stored at A)
 
-    directed : LinkDirected t e (link m k).low (link m k).high before after d x y
-    directed = let (l, u) = ends_counted Q.formed k inside in rw (low-is, high_is, Q.stored, l, u) at R
+    module _ {low high : ℕ} (low-is : low ≡ at ends k / 256) (high_is : high ≡ at ends k % 256) {d : Option ℕ} {x y : List ℕ}
+        (R : LinkDirected t e (low % 64) (high % 64) before after d x y) where
+      linked : LinkDirected t e (link m k).low (link m k).high before after d x y
+      linked = let (l, u) = ends_counted Q.formed k inside in rw (low-is, high_is, Q.stored, l, u) at R
 
-    pub directing_next : (d ≡ 2 → ⊥) → Directing m x y (set q k d) after (k + 1)
-    directing_next n =
-        let W = Q.formed in
-        let g = got (well_formed_fits W) W.nodes_most (well_formed_ordered W) k inside D.before_says later D.tables directed n in
-        record {
-          within = omega (arith, inside);
-          tables = rw (add-one k) g.tables;
-          unbridged = none_next (bridge (net_of m)) k D.unbridged g.unbridged;
-          directions_are = rw (D.directions_are, g.direction_is) (directions-next (net_of m) k (omega (arith, inside, W.count_most)));
-          before_says = (λ o. (k, omega arith, later.0 o), λ (i, s, L). let p : i ≡ k = omega arith in later.1 (rw p at L));
-        }
+      pub directing_next : {v : ℕ} → d ≡ Some v → Directing m x y (set q k v) after (k + 1)
+      directing_next g =
+          let W = Q.formed in
+          let g = got (well_formed_fits W) W.nodes_most (well_formed_ordered W) k inside D.before_says later D.tables (rw g at linked) in
+          record {
+            within = omega (arith, inside);
+            tables = rw (add-one k) g.tables;
+            unbridged = none_next (bridge (net_of m)) k D.unbridged g.unbridged;
+            directions_are = rw (D.directions_are, g.direction_is) (directions-next (net_of m) k (omega (arith, inside, W.count_most)));
+            before_says = (λ o. (k, omega arith, later.0 o), λ (i, s, L). let p : i ≡ k = omega arith in later.1 (rw p at L));
+          }
 
-    pub directs_bridge : d ≡ 2 → Directs m q k
-    directs_bridge z =
-        let W = Q.formed in
-        let b = got_none (well_formed_fits W) W.nodes_most (well_formed_ordered W) k inside D.before_says later D.tables Q.joined D.unbridged directed z in
-        record {
-          bridge_is = sym (lowest_found (parts (net_of m)) m.count k inside whole (parts_is k inside ∙ b));
-          directions_are = λ l. absurd (omega (arith, inside));
-        }
+      pub directed-bridge : d ≡ option.None → Err k ≡ directed m
+      unfolding directed
+      directed-bridge g =
+          let W = Q.formed in
+          let b = got_none (well_formed_fits W) W.nodes_most (well_formed_ordered W) k inside D.before_says later D.tables Q.joined D.unbridged (rw g at linked) in
+          let parted = parts_is k inside ∙ b in
+          rw (any_found (parts (net_of m)) m.count k inside parted, lowest_found (parts (net_of m)) m.count k inside whole parted)
 
-  pub directs_all : count ≤ k → Directs m q k
-  directs_all h =
+  pub directed-all : count ≤ k → Ok q ≡ directed m
+  unfolding directed
+  directed-all h =
       let z : k ≡ m.count = omega (arith, Q.counted, D.within) in
-      record {
-        bridge_is = z ∙ sym (lowest_none (parts (net_of m)) m.count k (omega arith) whole);
-        directions_are = λ _. D.directions_are ∙ ap (directions (net_of m)) z;
-      }
+      rw (any_none (parts (net_of m)) m.count k whole (omega arith), D.directions_are, z)

@@ -7,7 +7,7 @@ use Rattle.graph.specs.Net.{Net}
 use Rattle.graph.specs.Greedy.{greedy, direction}
 use Rattle.graph.specs.Laws.Pass.{greedy-length, greedy-at}
 use Rattle.mesh.specs.declared.Mesh.{Mesh}
-use Rattle.mesh.specs.declared.Answer.TheVariants.{Accepted}
+use Rattle.mesh.specs.Answer.{Accepted}
 use Rattle.mesh.specs.WellFormed.{link, WellFormed, InRange}
 use Rattle.mesh.specs.Laws.Checked.{well_formed}
 use Rattle.nets.specs.Nets.{net_of}

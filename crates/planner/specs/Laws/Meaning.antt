@@ -1,6 +1,6 @@
 -- What planning means: which meshes it refuses, with which number and place, and that an accepted plan is the first admissible assignment. The test behind
 -- refusal 21 is told by walks here, that behind 20 in `nets`. Assumes nothing.
-use Rattle.std.specs.Prelude.{ℕ, ◌<◌, ◌≡◌, refl, ◌⊎◌, ◌↔◌, true, false, not, List}
+use Rattle.std.specs.Prelude.{ℕ, ◌<◌, ◌≡◌, refl, ◌⊎◌, ◌↔◌, true, false, not, List, Err}
 use Rattle.std.proofs.Common.{sym, ◌∙◌, ap, subst, inl, inr, ⊎_elim}
 use Rattle.std.proofs.Math.Logic.{⊎_map}
 use Rattle.std.proofs.Math.Logic.Iff
@@ -9,8 +9,7 @@ use Rattle.scan.specs.Test.{branch, clash, failing}
 use Rattle.scan.specs.Lowest.{lowest, lowest_is, any}
 use Rattle.mesh.specs.declared.Mesh.{Mesh}
 use Rattle.mesh.specs.declared.Plan.{Plan}
-use Rattle.mesh.specs.declared.Answer.{Answer}
-use Rattle.mesh.specs.declared.Answer.TheVariants.{Accepted, Refused}
+use Rattle.mesh.specs.Answer.{Answer, Accepted, Refused}
 use Rattle.mesh.specs.Mesh.{mesh_answer}
 use Rattle.mesh.specs.Laws.Answer.{and_then-accepted, Tells, accepting, refusing, told-accepted, told-refused}
 use Rattle.graph.specs.Net.{Net, Fits, both_ways, without, Parted, First}
@@ -50,7 +49,7 @@ planned-answer m = by_answer (plan_answer m) _
   where
     by_answer : (a : Answer) (p : Plan) → (planned_as a p).answer ≡ a
     by_answer Accepted p = refl
-    by_answer (Refused number place) p = refl
+    by_answer (Err r) p = refl
 
 -- an accepted plan is one of a mesh that passes the checks
 pub plan_checked : (m : Mesh) → (planned m).answer ≡ Accepted → mesh_answer m ≡ Accepted

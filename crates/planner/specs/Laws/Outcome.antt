@@ -1,10 +1,9 @@
 -- What planning gives, by what the mesh checks answer and what the two searches find. Assumes nothing.
-use Rattle.std.specs.Prelude.{ℕ, ◌<◌, ◌≤◌, ◌≡◌, false, List}
+use Rattle.std.specs.Prelude.{ℕ, ◌≡◌, refl, Bool, true, false, Result, MatchResult, List}
 use Rattle.std.proofs.Common.{sym, ◌∙◌}
-use borrow.Author.Tests.{lt-ltb, le-ltb}
 use Rattle.scan.specs.Lowest.{lowest, any}
 use Rattle.mesh.specs.declared.Mesh.{Mesh}
-use Rattle.mesh.specs.declared.Answer.TheVariants.{Accepted, Refused}
+use Rattle.mesh.specs.Answer.{Accepted, Refused}
 use Rattle.mesh.specs.Mesh.{mesh_answer}
 use Rattle.graph.specs.Net.{Strong, both_ways}
 use Rattle.graph.specs.Plan.{unreached, parts}
@@ -15,7 +14,7 @@ use Rattle.nets.specs.Nets.{net_of}
 use Rattle.nets.specs.Laws.Fits.{fits}
 use Rattle.planner.specs.declared.Planned.{Planned}
 use Rattle.planner.specs.Plan.{plan_answer, padded, zero_plan, planned}
-use Rattle.planner.specs.Search.{Directs}
+use Rattle.planner.specs.Search.{directed}
 
 module _ (m : Mesh) where
   -- a refusal, with all zeros
@@ -35,29 +34,24 @@ module _ (m : Mesh) where
     unfolding planned plan_answer
     planned-accepted a b = rw (ok, a, b, refusal.planned (fits m ok) a b)
 
-    -- ---- by the numbers that the searches found
+    -- ---- by what the searches found
 
-    module _ {v : ℕ} (e : v ≡ lowest (unreached (net_of m)) m.nodes) where
-      pub answer-unreached : v < m.nodes → plan_answer m ≡ Refused 20 v
-      unfolding plan_answer any
-      answer-unreached h = rw (ok, ← e, lt-ltb v m.nodes h)
+    pub answer-unreached : {v : ℕ} → any (unreached (net_of m)) m.nodes ≡ true → v ≡ lowest (unreached (net_of m)) m.nodes → plan_answer m ≡ Refused 20 v
+    unfolding plan_answer
+    answer-unreached a e = rw (ok, a, e)
 
-      module _ (h : m.nodes ≤ v) where
-        all-reached : any (unreached (net_of m)) m.nodes ≡ false
-        unfolding any
-        all-reached = rw (← e) (le-ltb v m.nodes h)
+    module _ (all : any (unreached (net_of m)) m.nodes ≡ false) where
+      pub all-joined : Strong (net_of m) both_ways
+      all-joined = refusal.all-reached (fits m ok) all
 
-        pub all-joined : Strong (net_of m) both_ways
-        all-joined = refusal.all-reached (fits m ok) all-reached
+      by_any : (t : Bool) → any (parts (net_of m)) m.count ≡ t → {r : Result (List ℕ) ℕ} → r ≡ directed m → MatchResult r
+          (λ q. record { plan = record { directions = q }; answer = Accepted } ≡ planned m)
+          (λ k. plan_answer m ≡ Refused 21 k)
+      unfolding plan_answer directed
+      by_any true e q = rw (q, e, ok, all)
+      by_any false e q = rw (q, e) (sym (planned-accepted all e ∙ rw (greedy-length (net_of m) m.count)))
 
-        module _ {q : List ℕ} {b : ℕ} (D : Directs m q b) where
-          pub answer_parted : b < m.count → plan_answer m ≡ Refused 21 b
-          unfolding plan_answer any
-          answer_parted l = rw (ok, all-reached, ← D.bridge_is, lt-ltb b m.count l)
-
-          whole : m.count ≤ b → any (parts (net_of m)) m.count ≡ false
-          unfolding any
-          whole l = rw (← D.bridge_is) (le-ltb b m.count l)
-
-          pub planned-made : m.count ≤ b → record { plan = record { directions = q }; answer = Accepted } ≡ planned m
-          planned-made l = sym (planned-accepted all-reached (whole l) ∙ rw (greedy-length (net_of m) m.count, D.directions_are l))
+      pub answer-directed : {r : Result (List ℕ) ℕ} → r ≡ directed m → MatchResult r
+          (λ q. record { plan = record { directions = q }; answer = Accepted } ≡ planned m)
+          (λ k. plan_answer m ≡ Refused 21 k)
+      answer-directed = by_any (any (parts (net_of m)) m.count) refl

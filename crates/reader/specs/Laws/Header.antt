@@ -1,13 +1,13 @@
 -- What an accepted header has, and what reading a header gives, from its answer. Assumes nothing.
-use Rattle.std.specs.Prelude.{ℕ, ◌≤◌, ◌≡◌, List, true, leb, length, get_or}
+use Rattle.std.specs.Prelude.{ℕ, ◌≤◌, ◌≡◌, List, true, leb, length, get_or, Ok, Err}
 use Rattle.std.proofs.Math.Path.{refl}
-use Rattle.std.proofs.Common.{◌∙◌, leb-true}
+use Rattle.std.proofs.Common.{sym, ap, ◌∙◌, leb-true}
 use Rattle.scan.specs.Bytes.{number}
-use Rattle.mesh.specs.declared.Answer.TheVariants.{Accepted, Refused}
+use Rattle.mesh.specs.Answer.{Accepted}
 use Rattle.mesh.specs.Mesh.{nodes_fit, count_fits}
 use Rattle.mesh.specs.Laws.Answer.{must-accepted}
 use Rattle.reader.specs.declared.Header.{Header}
-use Rattle.reader.specs.Read.{known_version, header_answer, header_as, header_read}
+use Rattle.reader.specs.Read.{known_version, answer_of, header_answer, header_as, header_read}
 
 -- the header of s meets no refusal
 pub record GoodHeader (s : List ℕ) : Type 0 where
@@ -26,16 +26,20 @@ header_accepted s e =
     record { four = leb-true _ _ four; version = version; nodes = nodes; count = count }
 
 module _ (s : List ℕ) where
-  pub header_refused : {r : Header} {refusal place : ℕ} → r ≡ header_as (Refused refusal place) 0 0 → header_answer s ≡ Refused refusal place → r ≡ header_read s
-  unfolding header_read
-  header_refused e a = e ∙ rw a
-
   -- the answer of a header
-  pub header_answer_lem : (header_read s).answer ≡ header_answer s
+  pub header_answer_lem : answer_of (header_read s) ≡ header_answer s
   unfolding header_read
-  header_answer_lem = elim (header_answer s) as (λ a. (header_as a (get_or s 1 0) (number 2 s 2)).answer ≡ a) [ Accepted ↦ refl | Refused refusal place ↦ refl ]
+  header_answer_lem = elim (header_answer s) as (λ a. answer_of (header_as a (get_or s 1 0) (number 2 s 2)) ≡ a) [ Accepted ↦ refl | Err _ ↦ refl ]
 
   -- an accepted one's numbers
-  pub header_read_lem : header_answer s ≡ Accepted → header_read s ≡ record { nodes = get_or s 1 0; count = number 2 s 2; answer = Accepted }
+  pub header_read_lem : header_answer s ≡ Accepted → header_read s ≡ Ok (record { nodes = get_or s 1 0; count = number 2 s 2 })
   unfolding header_read
   header_read_lem a = rw a
+
+  -- what a header that is given says
+  pub header_given : {h : Header} → header_read s ≡ Ok h → (header_answer s ≡ Accepted) × (h.nodes ≡ get_or s 1 0) × (h.count ≡ number 2 s 2)
+  header_given {h} e =
+      let ok : header_answer s ≡ Accepted = sym header_answer_lem ∙ ap answer_of e in
+      let given : Ok h ≡ Ok (record { nodes = get_or s 1 0; count = number 2 s 2 }) = sym e ∙ header_read_lem ok in
+      let same : h ≡ record { nodes = get_or s 1 0; count = number 2 s 2 } = cc in
+      (ok, ap (λ (h : Header). h.nodes) same, ap (λ (h : Header). h.count) same)

@@ -3,7 +3,7 @@ use Rattle.std.specs.Prelude.{ℕ, ◌<◌, ◌≡◌, true, false, ltb}
 use Rattle.std.proofs.Math.Bool.{and-eq-true_iff}
 use Rattle.std.proofs.Common.{lt-ltb}
 use Rattle.scan.specs.Entry.{at}
-use Rattle.mesh.specs.declared.Answer.TheVariants.{Accepted}
+use Rattle.mesh.specs.Answer.{Accepted}
 use Rattle.flood.specs.Machine.{under_way, accepts}
 use Rattle.wavelengths.specs.Wavelength.{is_wavelength, wavelength_of, on}
 use Rattle.refusals.specs.Refusals as refusals

@@ -1,14 +1,13 @@
 -- What an accepted call has passed, and the refusal that calls on a link share. Assumes nothing.
-use Rattle.std.specs.Prelude.{ℕ, ◌<◌, ◌≡◌, refl, Bool, true, false, not, List, ltb}
+use Rattle.std.specs.Prelude.{ℕ, ◌<◌, ◌≡◌, refl, Bool, true, false, not, List, ltb, Err}
 use borrow.Author.Tests.{ltb-true, not-true}
 use Rattle.scan.specs.Entry.{at}
-use Rattle.mesh.specs.declared.Answer.{Answer}
-use Rattle.mesh.specs.declared.Answer.TheVariants.{Accepted, Refused}
+use Rattle.mesh.specs.Answer.{Answer, Accepted, Refused}
 use Rattle.mesh.specs.Mesh.{must, and_then}
 use Rattle.mesh.specs.Laws.Answer.{must-accepted, and_then-accepted}
 use Rattle.flood.specs.Machine.{under_way}
 use Rattle.wavelengths.specs.Wavelength.{is_wavelength}
-use Rattle.formed.specs.declared.Cut.{Cut}
+use Rattle.formed.specs.Cut.{Cut}
 use Rattle.refusals.specs.Refusals.{standing, link_answer, status_answer, cut_answer, deliver_answer, run_answer, route_answer}
 
 module _ (tested : Answer) (links k : ℕ) where
@@ -56,7 +55,7 @@ link-first Accepted links k next = go (ltb k links)
     go : (t : Bool) → must t 12 k next ≡ and_then (must t 12 k Accepted) next
     go true = refl
     go false = refl
-link-first (Refused number place) links k next = refl
+link-first (Err r) links k next = refl
 
 -- the calls that test 12 and 14 first: what comes next counts where the link is one and the number names a wavelength
 pub status_first : (tested : Answer) (links k w : ℕ) (next : Answer)
@@ -68,4 +67,4 @@ status_first Accepted links k w next = go (ltb k links) (is_wavelength w)
     go true true = refl
     go true false = refl
     go false t = refl
-status_first (Refused number place) links k w next = refl
+status_first (Err r) links k w next = refl

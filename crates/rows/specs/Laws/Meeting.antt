@@ -7,8 +7,8 @@ use Rattle.std.specs.Int.Count.{count_trailing_zeros}
 use Rattle.scan.specs.Test.{clash}
 use Rattle.scan.specs.Bits.{has, has_none, has-and_says, Digit, trailing_is}
 use Rattle.graph.specs.Walk.{Walk, join, turn}
-use Rattle.rows.specs.Rows.{Edge, Mirror, Meet, Apart}
-use Rattle.rows.specs.Laws.Spreading.{Spreading, spread_all, spread_says}
+use Rattle.rows.specs.Rows.{Edge, Mirror, Spreading, Meet, Apart}
+use Rattle.rows.specs.Laws.Spreading.{spread_all, spread_says}
 
 -- ---- what the search found
 

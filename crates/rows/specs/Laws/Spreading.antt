@@ -11,15 +11,7 @@ use Rattle.std.specs.Int.Count.{count_trailing_zeros}
 use Rattle.scan.specs.Test.{clash, known, failing, Says}
 use Rattle.scan.specs.Bits.{has, has_none, has_power_says, has-or_says, has_xor_says, or_power, Digit, trailing_is}
 use Rattle.graph.specs.Walk.{Walk, one, join, stay, carry}
-use Rattle.rows.specs.Rows.{Edge, Spread}
-
-pub record Spreading (rows : List ℕ) (u seen done : ℕ) : Type 0 where
-  pub seen_fits : seen < 2 ^ 64
-  pub done_fits : done < 2 ^ 64
-  pub start : has seen u ≡ true
-  pub sound : (v : ℕ) → has seen v ≡ true → Walk (Edge rows) u v
-  pub inside : (v : ℕ) → has done v ≡ true → has seen v ≡ true
-  pub followed : (v w : ℕ) → has done v ≡ true → Edge rows v w → has seen w ≡ true
+use Rattle.rows.specs.Rows.{Edge, Spread, Spreading}
 
 -- u is seen, and nothing is done
 pub spreading_start : (rows : List ℕ) (u seen : ℕ) → u < 64 → seen ≡ 2 ^ u → Spreading rows u seen 0
@@ -60,15 +52,18 @@ module _ {rows : List ℕ} {u seen done : ℕ} (S : Spreading rows u seen done) 
       pub done_grows : done < bit_or done bit
       done_grows = rw e (omega (arith, or_power done node (failing Iff.rfl seen-node.1), pow_pos node))
 
-      module _ (row : ℕ) (f : row ≡ get_or rows node 0) (fits : row < 2 ^ 64) where
+      module _ (fits : get_or rows node 0 < 2 ^ 64) where
+        abbrev row : ℕ
+        row = get_or rows node 0
+
         pub spreading_next : Spreading rows u (bit_or seen row) (bit_or done bit)
         spreading_next = record {
           seen_fits = or_lt 64 seen row S.seen_fits fits;
           done_fits = or_lt 64 done bit S.done_fits (rw e (pow-lt next-node.below));
           start = still u S.start;
-          sound = λ v h. ⊎_elim (S.sound v) (λ g. join (S.sound node seen-node.0) (one (rw f at g))) ((has-or_says seen row v).0 h);
+          sound = λ v h. ⊎_elim (S.sound v) (λ g. join (S.sound node seen-node.0) (one g)) ((has-or_says seen row v).0 h);
           inside = λ v h. ⊎_elim (λ g. still v (S.inside v g)) (λ q. still v (rw q seen-node.0)) (now_done v h);
-          followed = λ v w h a. ⊎_elim (λ g. still w (S.followed v w g a)) (λ q. (has-or_says seen row w).1 (inr (rw f (rw q at a)))) (now_done v h);
+          followed = λ v w h a. ⊎_elim (λ g. still w (S.followed v w g a)) (λ q. (has-or_says seen row w).1 (inr (rw q at a))) (now_done v h);
         }
           where
             still : (v : ℕ) → has seen v ≡ true → has (bit_or seen row) v ≡ true

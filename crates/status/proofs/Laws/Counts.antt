@@ -4,7 +4,7 @@ use Rattle.std.specs.Prelude.{◌≡◌, true, false, cond, ◌&&◌}
 use Rattle.std.proofs.Math.Bool.{Bool}
 use Rattle.std.proofs.Common.{arith}
 use Rattle.scan.specs.Entry.{at}
-use Rattle.metres.specs.declared.Length.TheVariants.{Metres}
+use Rattle.metres.specs.Known.{Metres}
 use Rattle.metres.specs.Length.{length_of, route_length}
 use Rattle.metres.specs.Laws.Length.{length_none}
 use Rattle.taken.specs.Taken.{is_taken}
@@ -15,8 +15,8 @@ use Rattle.wavelengths.specs.declared.Floods.{Floods}
 use Rattle.wavelengths.specs.declared.Wavelength.{Wavelength}
 use Rattle.wavelengths.specs.Wavelength.{on}
 use Rattle.wavelengths.specs.Merge as both
-use Rattle.formed.specs.declared.Cut.{Cut}
-use Rattle.formed.specs.declared.Cut.TheVariants as cuts
+use Rattle.formed.specs.Cut.{Cut}
+use Rattle.formed.specs.Cut as cuts
 use Rattle.topology.specs.Backup.{backup_on}
 use Rattle.refusals.specs.Refusals.{standing}
 use Rattle.pieces.specs.Laws.Counts.{both_counted}

@@ -1,11 +1,8 @@
--- `taken::list` meets its contract. The loop keeps that the taken links below i are listed, and goes on by blocks.
-use Prim.Native.Nat.{◌-◌, ◌≤◌}
+-- `taken::list` meets its contract. The loop keeps that the taken links below the block are listed.
+use Prim.Native.Nat.{◌*◌}
 use Rattle.scan.specs.Listed.{Listing}
 use Rattle.taken.specs.Taken.{is_taken}
 use Rattle.taken.proofs.list.Given as goal
 
-abbrev pub invariant-loop-i : goal.invariant-loop-i
-invariant-loop-i l = (l.i ≤ l.links) × Listing (is_taken l.states) l.i l.n l.row
-
-abbrev pub decreases-loop-i : goal.decreases-loop-i
-decreases-loop-i l = l.links - l.i
+abbrev pub invariant-loop-b : goal.invariant-loop-b
+invariant-loop-b l = Listing (is_taken l.states) (l.b * 16) l.n l.row

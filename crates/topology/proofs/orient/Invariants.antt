@@ -1,5 +1,5 @@
 -- `topology::orient` meets its contract. The loop keeps that the entries below i are filled and the others as they were.
-use Prim.Native.Nat.{ℕ, ◌-◌, ◌≤◌}
+use Prim.Native.Nat.{ℕ}
 use mathlib.Core.Path.{◌≡◌}
 use Rattle.scan.specs.Entry.{at}
 use Rattle.scan.specs.Fill.{filled}
@@ -9,9 +9,6 @@ use Rattle.topology.proofs.orient.Given as goal
 
 abbrev pub invariant-loop-i : goal.invariant-loop-i
 invariant-loop-i l =
-    let tail : ℕ → ℕ = λ j. tail_by First (at l.ends j) (at l.directions j) in
-    let head : ℕ → ℕ = λ j. head_by First (at l.ends j) (at l.directions j) in
-    (l.i ≤ l.links) × (l.tails ≡ filled tail l.i l.initial.tails) × (l.heads ≡ filled head l.i l.initial.heads)
-
-abbrev pub decreases-loop-i : goal.decreases-loop-i
-decreases-loop-i l = l.links - l.i
+    let tail : ℕ → ℕ = λ j. tail_by First (at l.mesh.ends.now j) (at l.mesh.directions.now j) in
+    let head : ℕ → ℕ = λ j. head_by First (at l.mesh.ends.now j) (at l.mesh.directions.now j) in
+    record { tails : l.tails ≡ filled tail l.i l.initial.tails; heads : l.heads ≡ filled head l.i l.initial.heads }

@@ -8,7 +8,7 @@ use Rattle.scan.specs.Entry.{at, moved, set_at}
 use Rattle.scan.specs.Fill.{table_of, table_sized, table_at}
 use Rattle.mesh.specs.declared.Mesh.{Mesh}
 use Rattle.mesh.specs.declared.Plan.{Plan}
-use Rattle.mesh.specs.declared.Answer.TheVariants.{Accepted}
+use Rattle.mesh.specs.Answer.{Accepted}
 use Rattle.mesh.specs.Mesh.{zero_link, mesh_answer}
 use Rattle.mesh.specs.WellFormed.{link}
 use Rattle.mesh.specs.Refusal.{Refusal}

@@ -2,7 +2,7 @@
 -- cut that stands; that it passes its own record test where the old one passed its, and the other way round where the old mesh is accepted; and that the route
 -- query on wavelength 1 gives what it gave before.
 -- Assumes the ranges of the old mesh's fields where the mesh of now is tested.
-use Rattle.std.specs.Prelude.{ℕ, ◌<◌, ◌≤◌, ◌≡◌, refl, Bool, true, false, not, ◌||◌, eqb}
+use Rattle.std.specs.Prelude.{ℕ, ◌<◌, ◌≤◌, ◌≡◌, refl, Bool, true, false, not, ◌||◌, eqb, Err}
 use Rattle.std.proofs.Math.Path.{sym, ap}
 use Rattle.std.proofs.Common.{◌∙◌, arith, lt-ltb}
 use Rattle.std.proofs.Math.Bool.{cond}
@@ -21,8 +21,7 @@ use Rattle.wavelengths.specs.Merge.{begin}
 use Rattle.mesh.specs.declared.Link.{Link}
 use Rattle.mesh.specs.declared.Mesh.{Mesh}
 use Rattle.mesh.specs.declared.Plan.{Plan}
-use Rattle.mesh.specs.declared.Answer.{Answer}
-use Rattle.mesh.specs.declared.Answer.TheVariants.{Accepted, Refused}
+use Rattle.mesh.specs.Answer.{Answer, Accepted, Refused}
 use Rattle.mesh.specs.Mesh.{must, and_then, mesh_answer}
 use Rattle.mesh.specs.Arc.{tail_of, head_of}
 use Rattle.mesh.specs.Laws.Answer.{must-accepted, and_then-accepted}
@@ -137,7 +136,7 @@ module _ (s : OldSession) (ranges : InRange s.mesh) (e : old.record_answer s ≡
 at_once : (a : Answer) (directions states cut reached second : Bool)
     → and_then (and_then a (must (not directions) 13 0 Accepted)) (must (not (cut || ((states || reached) || second))) 13 0 Accepted)
     ≡ and_then a (must (not ((((directions || states) || cut) || reached) || second)) 13 0 Accepted)
-at_once (Refused number place) directions states cut reached second = refl
+at_once (Err r) directions states cut reached second = refl
 at_once Accepted true states cut reached second = refl
 at_once Accepted false true true reached second = refl
 at_once Accepted false true false reached second = refl

@@ -1,7 +1,7 @@
 -- The mesh checks of a mesh from before a change are those of the mesh that it becomes, with its own test of the entries past the last link after them. All
 -- that is asked of a carried-over link is that it keeps both ends, and that the zero link stays the zero link; none has a duct. Assumes the ranges of the old
 -- mesh's fields, which its types ensure.
-use Rattle.std.specs.Prelude.{ℕ, ◌≤◌, ◌≡◌, refl, ◌≢◌, Bool, true, false, ◌||◌, List, ltb, eqb, length}
+use Rattle.std.specs.Prelude.{ℕ, ◌≤◌, ◌≡◌, refl, ◌≢◌, Bool, true, false, ◌||◌, List, ltb, eqb, length, Err}
 use Rattle.std.proofs.Common.{sym, ◌∙◌, arith, ltb-false, lt-ltb, le-ltb}
 use Rattle.std.proofs.Math.Path.{ap}
 use Rattle.std.proofs.Math.Bool.{and-eq-true_iff}
@@ -13,8 +13,7 @@ use Rattle.scan.specs.All.{all_drop}
 use Rattle.scan.specs.Entry.{replicate-at}
 use Rattle.scan.specs.Lowest.{every_says, every_fails}
 use Rattle.scan.specs.Fill.{table_of}
-use Rattle.mesh.specs.declared.Answer.{Answer}
-use Rattle.mesh.specs.declared.Answer.TheVariants.{Accepted, Refused}
+use Rattle.mesh.specs.Answer.{Answer, Accepted, Refused}
 use Rattle.mesh.specs.Mesh as current
 use Rattle.mesh.specs.Mesh.{must, and_then, nodes_fit, count_fits, mesh_answer}
 use Rattle.mesh.specs.WellFormed.{link, duct}
@@ -100,7 +99,7 @@ checks_after n k ends = after (nodes_fit n) (count_fits k) (entries_answer n end
     after : (fit few : Bool) (a : Answer) (s r : Bool) → (s ≡ true → r ≡ true) → checks fit few a s ≡ and_then (checks fit few a r) (must s 13 0 Accepted)
     after false few a s r h = refl
     after true false a s r h = refl
-    after true true (Refused number place) s r h = refl
+    after true true (Err why) s r h = refl
     after true true Accepted s true h = refl
     after true true Accepted true false h = clash (h refl) refl
     after true true Accepted false false h = refl

@@ -1,13 +1,12 @@
 -- The record test from before a change accepts exactly the well-formed old records, and refuses each on its own condition. What the mesh checks say of the mesh
 -- of now is carried over to the old mesh, whose links have the same ends and are zero at least where the old ones are. Assumes the ranges of the old mesh's
 -- fields, which its types ensure.
-use Rattle.std.specs.Prelude.{ℕ, zero, suc, ◌+◌, ◌<◌, ◌≤◌, ◌≡◌, refl, ◌↔◌, Bool, true, false, not, ◌||◌}
+use Rattle.std.specs.Prelude.{ℕ, zero, suc, ◌+◌, ◌<◌, ◌≤◌, ◌≡◌, refl, ◌↔◌, Bool, true, false, not, ◌||◌, Err}
 use Rattle.std.proofs.Common.{sym, subst, ap, ◌∙◌}
 use Rattle.scan.specs.Test.{fails, Says, not_says, nor_says}
 use Rattle.scan.specs.Entry.{has}
 use Rattle.faults.specs.Faults.{overflows, strays}
-use Rattle.mesh.specs.declared.Answer.{Answer}
-use Rattle.mesh.specs.declared.Answer.TheVariants.{Accepted, Refused}
+use Rattle.mesh.specs.Answer.{Answer, Accepted, Refused}
 use Rattle.mesh.specs.Mesh.{must, and_then, mesh_answer}
 use Rattle.mesh.specs.WellFormed as current
 use Rattle.mesh.specs.WellFormed.{link}
@@ -15,7 +14,7 @@ use Rattle.mesh.specs.Refusal as refusals
 use Rattle.mesh.specs.Laws.Answer.{must-accepted, and_then-accepted, Tells, accepting, refusing, told-refused}
 use Rattle.mesh.specs.Laws.Checked.{well_formed, accepts, no_fault}
 use Rattle.mesh.specs.Laws.Refused.{refused_only}
-use Rattle.formed.specs.declared.Cut.TheVariants as cuts
+use Rattle.formed.specs.Cut as cuts
 use Rattle.formed.specs.WellFormed.{Bounded}
 use Rattle.formed.specs.Laws.Forming.{bounded_says, cut_says, strays_says}
 use Rattle.legacy.specs.declared.OldMesh.{OldMesh}
@@ -36,7 +35,7 @@ last_refused R a t n p e own last = told-refused (subst (Tells (Unit {0}) R) e (
   where
     told : (a : Answer) (t : Bool) → ((number place : ℕ) → a ≡ Refused number place → R number place) → (a ≡ Accepted → t ≡ false → R n p)
         → Tells (Unit {0}) R (and_then a (must t n p Accepted))
-    told (Refused number place) t own last = refusing (own number place refl)
+    told (Err r) t own last = refusing (own r.number r.place refl)
     told Accepted true own last = accepting tt
     told Accepted false own last = refusing (last refl refl)
 

@@ -17,7 +17,7 @@ given c = c.args.old
 begun : (c : After-cut_again-session) → let s = given c in c.cut_again-session.result ≡ cut_again (started (mesh_of s.mesh) (plan_of s.plan)).session s.cut
 begun c =
     c.cut_again-session.ensures
-    ∙ ap (λ (r : Change). cut_again r.session (given c).cut) (c.start-started.ensures ∙ (λ j. started (c.mesh_of.ensures j) (c.plan_of.ensures j)))
+    ∙ ap (λ (r : Change). cut_again r.session (given c).cut) (c.start-started.ensures ∙ (λ j. started (c.from.ensures j) (c.from-2.ensures j)))
 
 pub returns-in_default : goal.returns-in_default
 unfolding carried
@@ -26,6 +26,6 @@ returns-in_default c = change_stops c.check-answer.ensures.answer _ _ _ c.in_def
 pub returns : goal.returns
 unfolding carried
 returns c =
-    let accepted = c.in-Accepted.is in
+    let accepted = c.in-Ok.is in
     change_goes c.check-answer.ensures.answer _ _ _ accepted
-    ((λ j. with_first (begun c.before.before j) (c.flood_of-session.ensures j)) ∙ carried_again (given c.before.before) c.check-answer.ensures.ranges (sym c.check-answer.ensures.answer ∙ accepted))
+    ((λ j. with_first (begun c.before.before j) (c.from-session.ensures j)) ∙ carried_again (given c.before.before) c.check-answer.ensures.ranges (sym c.check-answer.ensures.answer ∙ accepted))

@@ -1,5 +1,5 @@
 -- The length of a book, and the ways out of writing it. Assumes nothing.
-use Rattle.std.specs.Prelude.{ℕ, ◌+◌, ◌*◌, ◌≤◌, ◌<◌, ◌≡◌, List, [], ◌∷◌, leb, take}
+use Rattle.std.specs.Prelude.{ℕ, ◌+◌, ◌*◌, ◌≤◌, ◌<◌, ◌≡◌, List, [], ◌∷◌, leb, take, Option, Some, None, Result, Ok, Err}
 use Rattle.std.proofs.Common.{◌∙◌, arith, length-append, length-take}
 use borrow.Author.Tests.{leb-true, leb-false, le-leb, lt-leb}
 use Rattle.std.proofs.Math.ListN.{length}
@@ -8,13 +8,13 @@ use Rattle.scan.specs.Test.{branch}
 use Rattle.scan.specs.Store.{sets_front}
 use Rattle.mesh.specs.declared.Link.{Link}
 use Rattle.mesh.specs.declared.Mesh.{Mesh}
-use Rattle.mesh.specs.declared.Answer.TheVariants.{Accepted, Refused}
+use Rattle.mesh.specs.declared.Reason.{Reason}
+use Rattle.mesh.specs.Answer.{Accepted, Refused}
 use Rattle.mesh.specs.Mesh.{zero_link, mesh_answer}
 use Rattle.fields.specs.declared.Fields.{Fields}
 use Rattle.fields.specs.Record.{as_link, longest_record, record_of}
 use Rattle.fields.specs.Entries.{entries_of}
 use Rattle.fields.specs.Laws.Record.{record_most}
-use Rattle.writer.specs.declared.Written.{Written}
 use Rattle.writer.specs.Written.{records_of, book_of, longest_book, lacking, encode_answer, written, output_after}
 
 -- the header takes four bytes
@@ -35,45 +35,45 @@ book_within m h =
 
 -- ---- the ways out of `write_book`
 
--- a book has at least its header, so that 0 says that it fits
-pub lacks : (m : Mesh) (room n : ℕ) → n ≡ lacking m room → 0 < n → (room < length (book_of m)) × (n ≡ length (book_of m))
+-- the output is short, or long enough
+pub lacks : (m : Mesh) (room n : ℕ) → Some n ≡ lacking m room → (room < length (book_of m)) × (n ≡ length (book_of m))
 lacks m room n e =
-    branch (λ (v : ℕ). n ≡ v → 0 < n → (room < length (book_of m)) × (n ≡ length (book_of m))) (leb (length (book_of m)) room)
-    (λ t q h. absurd (omega arith))
-    (λ t q h. (leb-false _ _ t, q))
+    branch (λ (v : Option ℕ). Some n ≡ v → (room < length (book_of m)) × (n ≡ length (book_of m))) (leb (length (book_of m)) room)
+    (λ t q. cc)
+    (λ t q. (leb-false _ _ t, cc))
     e
 
-pub fits : (m : Mesh) (room n : ℕ) → n ≡ lacking m room → n ≤ 0 → length (book_of m) ≤ room
-fits m room n e =
-    branch (λ (v : ℕ). n ≡ v → n ≤ 0 → length (book_of m) ≤ room) (leb (length (book_of m)) room)
-    (λ t q h. leb-true _ _ t)
-    (λ t q h. absurd (omega (arith, length-book m)))
+pub fits : (m : Mesh) (room : ℕ) → None ≡ lacking m room → length (book_of m) ≤ room
+fits m room e =
+    branch (λ (v : Option ℕ). None ≡ v → length (book_of m) ≤ room) (leb (length (book_of m)) room)
+    (λ t q. leb-true _ _ t)
+    (λ t q. cc)
     e
 
 -- the result r and the output `after` are what writing m to `out` gives
-abbrev pub Writes : Mesh → List ℕ → Written → List ℕ → Type 0
+abbrev pub Writes : Mesh → List ℕ → Result ℕ Reason → List ℕ → Type 0
 Writes m out r after = (r ≡ written m (length out)) × (after ≡ output_after m out)
 
 module _ (m : Mesh) (out : List ℕ) where
   -- the mesh is refused
-  pub write_refused : (r : Written) {number place : ℕ} → mesh_answer m ≡ Refused number place → r.length ≡ 0 → r.answer ≡ Refused number place → Writes m out r out
+  pub write_refused : {r : Reason} → mesh_answer m ≡ Err r → Writes m out (Err r) out
   unfolding written output_after encode_answer
-  write_refused r h e a = ((λ j. record { length = e j; answer = a j }) ∙ rw h, rw h)
+  write_refused h = (rw h, rw h)
 
-  module _ (h : mesh_answer m ≡ Accepted) (n : ℕ) (q : n ≡ lacking m (length out)) where
+  module _ (h : mesh_answer m ≡ Accepted) where
     -- the output is short
-    pub write_short : 0 < n → (r : Written) → r.length ≡ 0 → r.answer ≡ Refused 11 n → Writes m out r out
+    pub write_short : (n : ℕ) → Some n ≡ lacking m (length out) → Writes m out (Refused 11 n) out
     unfolding written output_after encode_answer
-    write_short l r e a =
-        let (less, size) = lacks m (length out) n q l in
+    write_short n q =
+        let (less, size) = lacks m (length out) n q in
         let short = lt-leb _ _ less in
-        ((λ j. record { length = e j; answer = a j }) ∙ rw (h, short, size), rw (h, short))
+        (rw (h, short, size), rw (h, short))
 
     -- the book is stored
-    pub write_done : n ≤ 0 → (at : ℕ) → at ≡ length (book_of m) → {after : List ℕ} → after ≡ sets out 0 (book_of m)
-        → Writes m out (record { length = at; answer = Accepted }) after
+    pub write_done : None ≡ lacking m (length out) → (at : ℕ) → at ≡ length (book_of m) → {after : List ℕ} → after ≡ sets out 0 (book_of m)
+        → Writes m out (Ok at) after
     unfolding written output_after encode_answer
-    write_done l at e s =
-        let room = fits m (length out) n q l in
+    write_done q at e s =
+        let room = fits m (length out) q in
         let enough = le-leb _ _ room in
         (rw (h, enough, e), s ∙ (sets_front (book_of m) out room ∙ rw (h, enough)))

@@ -7,12 +7,9 @@ use Rattle.codec.specs.Book.{output_after}
 use Rattle.codec.proofs.Laws.Read.{output_decoded}
 use Rattle.clients.proofs.book.rewrite.Goals as goal
 
-pub returns : goal.returns
-returns c =
+pub returns-clause-inverse : goal.returns-clause-inverse
+returns-clause-inverse c =
     let a = c.args in
-    let small : AreBytes a.book.now = λ j. omega (arith, c.shared_slice_known-1.given j) in
-    let out = c.encode-writing.ensures.output ∙ ap (λ (r : Decoded). output_after r.mesh a.out.now) c.decode-read.ensures in record {
-      answers = rw (c.encode-writing.ensures.answer, c.decode-read.ensures);
-      output = out;
-      inverse = λ accepted room. out ∙ (output_decoded a.book.now a.out.now small accepted room).1;
-    }
+    let small : AreBytes a.book.now = λ j. omega (arith, c.type_inv.book j) in
+    let out = c.encode-writing.ensures.output ∙ ap (λ (r : Decoded). output_after r.mesh a.out.now) c.decode-read.ensures in
+    λ accepted room. out ∙ (output_decoded a.book.now a.out.now small accepted room).1

@@ -1,10 +1,11 @@
+-- `clients::duct::lowest_in` meets its contract.
 use Prim.Native.Nat.{ℕ, min}
-use mathlib.Core.Path.{sym, ◌∙◌}
+use mathlib.Core.Path.{◌≡◌, sym}
 use mathlib.Core.Bool.{Bool}
 use native.Mathlib.Omega.{arith}
-use borrow.Author.Tests.{eq-eqb, ne_eqb}
+use borrow.Author.Tests.{eq-eqb}
 use lib.Dec.{eqb}
-use Rattle.scan.specs.Lowest.{none_yet, none_next, lowest_found, lowest_none}
+use Rattle.scan.specs.Lowest.{lowest, lowest_found, lowest_none}
 use Rattle.mesh.specs.declared.Mesh.{Mesh}
 use Rattle.mesh.specs.WellFormed.{duct}
 use Rattle.clients.proofs.duct.lowest_in.Goals as goal
@@ -13,21 +14,17 @@ use Rattle.clients.proofs.duct.lowest_in.Goals as goal
 abbrev has : Mesh → ℕ → ℕ → Bool
 has m number i = eqb (duct m i) number
 
-pub loop-i-init : goal.loop-i-init
-loop-i-init c = (omega arith, none_yet _)
-
-pub returns-then-numbers-i : goal.returns-then-numbers-i
-returns-then-numbers-i c =
-    let l = c.loop-i in
+pub returns-then-m-from : goal.returns-then-m-from
+returns-then-m-from c =
     let a = c.args in
-    sym (lowest_found (has a.m a.duct) (min a.m.count 256) l.i (omega (arith, c.links_of-links.ensures)) l.invariant.1 (eq-eqb _ _ c.if-numbers-i.true))
-
-pub loop-i-preserved : goal.loop-i-preserved
-loop-i-preserved c = (omega arith, none_next _ _ c.loop-i.invariant.1 (ne_eqb _ _ c.if-numbers-i.false))
+    let i = c.loop-i.i in
+    let e : lowest (has a.m a.duct) (min a.m.count 256) ≡ i
+    = lowest_found (has a.m a.duct) (min a.m.count 256) i (omega arith) c.loop-i.invariant (rw (← c.from.ensures) (eq-eqb _ _ c.if-m-from.true)) in
+    (omega arith, sym e)
 
 pub returns : goal.returns
 returns c =
-    let l = c.loop-i in
     let a = c.args in
-    c.links_of-links.ensures
-    ∙ sym (lowest_none (has a.m a.duct) (min a.m.count 256) l.i (omega (arith, c.links_of-links.ensures)) l.invariant.1)
+    let e : lowest (has a.m a.duct) (min a.m.count 256) ≡ min a.m.count 256
+    = lowest_none (has a.m a.duct) (min a.m.count 256) c.loop-i.i (omega arith) c.loop-i.invariant in
+    λ b. omega arith

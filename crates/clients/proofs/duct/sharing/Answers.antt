@@ -4,7 +4,7 @@ use mathlib.Core.Path.{◌≡◌, sym, ◌∙◌, ap}
 use mathlib.Core.List.{List}
 use lib.ListN.{length, take}
 use Rattle.mesh.specs.declared.Mesh.{Mesh}
-use Rattle.mesh.specs.declared.Answer.TheVariants.{Accepted}
+use Rattle.mesh.specs.Answer.{Accepted}
 use Rattle.ducts.specs.declared.Shared.{Shared}
 use Rattle.ducts.specs.Sharing.{shared, output_after}
 use Rattle.ducts.specs.Meaning.{Lists}
@@ -16,11 +16,7 @@ lists : (m : Mesh) (k : ℕ) (out : List ℕ) (r : Shared) {after : List ℕ} �
     → r.answer ≡ Accepted → Lists m k (take r.count after)
 lists m k out r e o h = rw (e, o) (accepted_lists m k out (sym (ap (λ (s : Shared). s.answer) e) ∙ h))
 
-pub returns : goal.returns
-returns c =
+pub returns-clause-listed : goal.returns-clause-listed
+returns-clause-listed c =
     let s = c.sharing in
-    let a = c.args in record {
-      answer = s.ensures.answer;
-      output = s.ensures.output;
-      listed = lists a.m a.link a.out.now s.result s.ensures.answer s.ensures.output;
-    }
+    lists c.args.m c.args.link c.args.out.now s.result s.ensures.answer s.ensures.output

@@ -4,7 +4,7 @@ use mathlib.Core.Path.{◌≡◌, sym, ◌∙◌, ap}
 use mathlib.Core.List.{List}
 use lib.ListN.{length, take}
 use Rattle.mesh.specs.declared.Mesh.{Mesh}
-use Rattle.mesh.specs.declared.Answer.TheVariants.{Accepted}
+use Rattle.mesh.specs.Answer.{Accepted}
 use Rattle.mesh.specs.WellFormed.{InRange}
 use Rattle.mesh.proofs.Ranges.{in_range}
 use Rattle.nets.specs.Nets.{net_of}
@@ -19,11 +19,8 @@ folded : (m : Mesh) → InRange m → (root : ℕ) (out : List ℕ) (r : Collect
     → r.answer ≡ Accepted → Folded (net_of m) root (tree_of m root) (take r.count after) r.tree
 folded m g root out r e o h = rw (e, o) (accepted_collects m root out g (sym (ap (λ (s : Collected). s.answer) e) ∙ h))
 
-pub returns : goal.returns
-returns c =
+pub returns-clause-folded : goal.returns-clause-folded
+returns-clause-folded c =
     let r = c.collect in
-    let a = c.args in record {
-      answer = r.ensures.answer;
-      output = r.ensures.output;
-      folded = folded a.m (in_range a.m _ c.well_formed.0) a.root a.out.now r.result r.ensures.answer r.ensures.output;
-    }
+    let a = c.args in
+    folded a.m (in_range a.m _ c.well_formed.0) a.root a.out.now r.result r.ensures.answer r.ensures.output

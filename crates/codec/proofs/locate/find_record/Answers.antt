@@ -1,58 +1,43 @@
 -- `codec::locate::find_record` meets its contract: reading is refused, there is no such link, or its record is found.
 use native.Mathlib.Omega.{arith}
-use Prim.Native.Nat.{ℕ}
+use Rattle.std.proofs.Common.{rules}
+use Rattle.std.specs.Prelude.{Err}
 use mathlib.Core.Path.{◌≡◌, sym, ◌∙◌, ap}
-use mathlib.Core.List.{List}
 use Rattle.scan.specs.Bytes.{number}
-use Rattle.mesh.specs.declared.Answer.TheVariants.{Accepted}
-use Rattle.codec.specs.declared.Decoded.{Decoded}
-use Rattle.codec.specs.Book.{book_answer, span_answer, decoded}
-use Rattle.codec.proofs.Laws.Accepted.{decoded-answer}
-use Rattle.codec.proofs.Laws.Locate.{decoded-count, span-unread, span_none, span-some, span-refused, span_found}
+use Rattle.mesh.specs.declared.Mesh.{Mesh}
+use Rattle.mesh.specs.Answer.{Accepted}
+use Rattle.codec.specs.Book.{book_answer, span_answer}
+use Rattle.codec.proofs.Laws.Locate.{mesh_of-count, span-unread, span_none, span-some, span-refused, span_found}
 use Rattle.codec.proofs.locate.find_record.Goals as goal
-use Rattle.codec.proofs.locate.find_record.Goals.{Else-count-link}
+use Rattle.codec.proofs.locate.find_record.Goals.{In_ok-read_into, Else-m-link}
 
-module _ (s : List ℕ) {d : Decoded} (e : d ≡ decoded s) where
-  -- reading's answer is the book's
-  read_as : d.answer ≡ book_answer s
-  read_as = ap (λ (d : Decoded). d.answer) e ∙ decoded-answer s
+-- the book is read, and its mesh says the links
+module _ (c : In_ok-read_into) where
+  read : book_answer c.args.book.now ≡ Accepted
+  read = sym c.read_into.ensures.answer ∙ c.in_ok-read_into.was
 
-  -- an accepted book's count
-  count-as : d.answer ≡ Accepted → d.mesh.count ≡ number 2 s 2
-  count-as told = ap (λ (x : Decoded). x.mesh.count) e ∙ decoded-count s (decoded-answer s ∙ (sym read_as ∙ told))
+  count-is : c.read_into.new.m.count ≡ number 2 c.args.book.now 2
+  count-is = ap (λ (m : Mesh). m.count) (c.read_into.ensures.mesh c.in_ok-read_into.was) ∙ mesh_of-count c.args.book.now
 
 -- the record is there
-found : (c : Else-count-link) → span_answer c.args.book.now c.args.link ≡ Accepted
+found : (c : Else-m-link) → span_answer c.args.book.now c.args.link ≡ Accepted
 found c =
-    let s = c.args.book.now in
-    let e = c.decode-d.ensures in
-    let h = c.if-count-link.false in
-    span-some s c.args.link (sym (read_as s e) ∙ c.in-Accepted.is) (rw (count-as s e c.in-Accepted.is) at h)
+    let t = (goal.at.Else-m-link c).In_ok-read_into in
+    let h = c.if-m-link.false in
+    span-some c.args.book.now c.args.link (read t) (rw (count-is t) at h)
 
-pub returns-in_default : goal.returns-in_default
-returns-in_default c =
-    let told = c.in_default.is in
+pub returns-in_err-read_into : goal.returns-in_err-read_into
+returns-in_err-read_into c =
     let a = c.args in
-    let r = c.refused.ensures in
-    let e = span-unread a.book.now a.link (sym (read_as a.book.now c.decode-d.ensures) ∙ told) in record {
-      value = span-refused a.book.now a.link c.refused.result e r.start r.end (r.answer ∙ told);
-      order = omega arith;
-      within = omega arith;
-    }
+    let same : c.from_residual.result ≡ Err c.in_err-read_into.field-0.0 = search rules in
+    same ∙ span-refused a.book.now a.link (span-unread a.book.now a.link (sym c.read_into.ensures.answer ∙ c.in_err-read_into.was))
 
-pub returns-then-count-link : goal.returns-then-count-link
-returns-then-count-link c =
+pub returns-then-m-link : goal.returns-then-m-link
+returns-then-m-link c =
     let a = c.args in
-    let s = a.book.now in
-    let q = c.decode-d.ensures in
-    let told = c.in-Accepted.is in
-    let h = c.if-count-link.true in
-    let r = c.refused-then-count-link.ensures in
-    let e = span_none s a.link (sym (read_as s q) ∙ told) (rw (count-as s q told) at h) in record {
-      value = span-refused s a.link c.refused-then-count-link.result e r.start r.end r.answer;
-      order = omega arith;
-      within = omega arith;
-    }
+    let t = (goal.at.returns-then-m-link c).In_ok-read_into in
+    let h = c.if-m-link.true in
+    span-refused a.book.now a.link (span_none a.book.now a.link (read t) (rw (count-is t) at h))
 
 pub record_start-start-requires : goal.record_start-start-requires
 record_start-start-requires c = found c
@@ -63,8 +48,5 @@ overflow_add-end c = omega (arith, c.record_start-start.ensures.whole, c.record_
 pub returns : goal.returns
 returns c =
     let r = c.record_start-start in
-    let a = c.args in record {
-      value = rw c.record_length.ensures.value (span_found a.book.now a.link r.result (found (goal.at.returns c).Else-count-link) r.ensures.value);
-      order = omega arith;
-      within = rw c.record_length.ensures.value r.ensures.whole;
-    }
+    let a = c.args in
+    rw c.record_length.ensures.value (span_found a.book.now a.link r.result (found (goal.at.returns c).Else-m-link) r.ensures.value)

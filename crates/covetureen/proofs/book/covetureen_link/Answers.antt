@@ -22,7 +22,7 @@ returns-in_default c =
 pub returns : goal.returns
 returns c =
     let e : c.and_then-named.result ≡ named_answer c.args.book.now c.args.link = c.and_then-named.ensures ∙ rw (c.link_answer.ensures, c.decode-d.ensures) in
-    let h = sym e ∙ c.in-Accepted.is in
+    let h = sym e ∙ c.in-Ok.is in
     let d = c.decode-d.ensures in
     let k = c.args.link in
     let l = c.link_of-l.ensures ∙ ap (λ (z : Decoded). link z.mesh k) d in record {

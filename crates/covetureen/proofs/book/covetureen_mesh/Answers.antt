@@ -18,7 +18,7 @@ pub returns : goal.returns
 returns c =
     let d = c.decode-d.ensures in
     let e = ap (λ (z : Decoded). z.answer) d in
-    let h = sym e ∙ c.in-Accepted.is in record {
+    let h = sym e ∙ c.in-Ok.is in record {
       number = c.tell-2.ensures.number ∙ ap number_of e;
       nodes = ap (λ (z : Decoded). z.mesh.nodes) d ∙ rw h;
       links = ap (λ (z : Decoded). z.mesh.count) d ∙ rw h;

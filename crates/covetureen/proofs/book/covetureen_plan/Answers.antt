@@ -20,7 +20,7 @@ pub returns : goal.returns
 returns c =
     let p : c.plan-p.result ≡ planned (mesh_in c.args.book.now) = c.plan-p.ensures ∙ ap (λ (z : Decoded). planned z.mesh) c.decode-d.ensures in
     let e : c.and_then-planned.result ≡ plan_answer c.args.book.now = c.and_then-planned.ensures ∙ rw (p, c.decode-d.ensures) in
-    let h = sym e ∙ c.in-Accepted.is in record {
+    let h = sym e ∙ c.in-Ok.is in record {
       number = c.tell-2.ensures.number ∙ ap number_of e;
       directions = ap (λ (z : Planned). z.plan.directions) p ∙ rw h;
       place = c.tell-2.ensures.place ∙ ap place_of e;

@@ -23,7 +23,7 @@ pub returns : goal.returns
 returns c =
     let e : c.and_then-a.result ≡ cut_answer c.args.book.now c.args.link
     = c.and_then-a.ensures ∙ rw (c.link_answer.ensures, c.and_then-planned.ensures, c.plan-p.ensures, c.decode-d.ensures) in
-    let h = sym e ∙ c.in-Accepted.is in
+    let h = sym e ∙ c.in-Ok.is in
     let d = c.decode-d.ensures in
     let k = c.args.link in
     let r = c.recover-r.ensures ∙ ap (λ (z : Decoded). recovered z.mesh k) d in record {

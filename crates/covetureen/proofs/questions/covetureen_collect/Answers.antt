@@ -27,7 +27,7 @@ returns c =
     let asked : c.collect-c.result ≡ collected (mesh_in c.args.book.now) c.args.root 127
     = c.collect-c.ensures.answer ∙ ap (λ (z : Decoded). collected z.mesh c.args.root 127) c.decode-d.ensures in
     let e : c.and_then-collected.result ≡ collect_answer c.args.book.now c.args.root = c.and_then-collected.ensures ∙ rw (asked, c.decode-d.ensures) in
-    let h = sym e ∙ c.in-Accepted.is in record {
+    let h = sym e ∙ c.in-Ok.is in record {
       number = c.tell-2.ensures.number ∙ ap number_of e;
       route = visits ∙ rw h;
       tree = ap (λ (z : Collected). z.tree) asked ∙ rw h;

@@ -26,7 +26,7 @@ returns c =
     let asked : c.sharing-s.result ≡ shared (mesh_in c.args.book.now) c.args.link 256
     = c.sharing-s.ensures.answer ∙ ap (λ (z : Decoded). shared z.mesh c.args.link 256) c.decode-d.ensures in
     let e : c.and_then-shared.result ≡ sharing_answer c.args.book.now c.args.link = c.and_then-shared.ensures ∙ rw (asked, c.decode-d.ensures) in
-    let h = sym e ∙ c.in-Accepted.is in record {
+    let h = sym e ∙ c.in-Ok.is in record {
       number = c.tell-2.ensures.number ∙ ap number_of e;
       links = lists ∙ rw h;
       count = ap (λ (z : Shared). z.count) asked ∙ rw h;

@@ -21,7 +21,7 @@ pub returns : goal.returns
 returns c =
     let s : c.survey-s.result ≡ surveyed (mesh_in c.args.book.now) = c.survey-s.ensures ∙ ap (λ (z : Decoded). surveyed z.mesh) c.decode-d.ensures in
     let e : c.and_then-surveyed.result ≡ survey_answer c.args.book.now = c.and_then-surveyed.ensures ∙ rw (s, c.decode-d.ensures) in
-    let h = sym e ∙ c.in-Accepted.is in record {
+    let h = sym e ∙ c.in-Ok.is in record {
       number = c.tell-2.ensures.number ∙ ap number_of e;
       parts = ap (λ (z : Surveyed). z.parts) s ∙ rw h;
       bridges = ap (λ (z : Surveyed). z.bridges) s ∙ rw h;

@@ -1,32 +1,19 @@
-use mathlib.Core.Path.{◌≡◌, sym, ◌∙◌}
-use native.Mathlib.Omega.{arith}
-use Rattle.scan.specs.Entry.{at}
-use Rattle.scan.specs.Passing.{counted_none, counted_pass, counted_fail, passing-le}
-use Rattle.ducts.specs.Sharing.{shares}
+-- `ducts::links::count` meets its contract: of all links it counts those that pass the test.
+use mathlib.Core.Path.{◌∙◌, ap}
+use lib.ListN.{length}
+use Rattle.std.proofs.Common.{rules, tests, arith}
+use Rattle.std.proofs.lemmas.Iterator.{YieldsList-from_range}
+use Rattle.std.proofs.lemmas.Iterator.Consumers.{YieldsList-from_filter, count_from_yields_List}
+use Rattle.mesh.specs.WellFormed.{duct}
+use Rattle.ducts.specs.Sharing.{shares, sharing}
+use Rattle.ducts.proofs.Laws.Listed.{filter-range}
 use Rattle.ducts.proofs.links.count.Goals as goal
-use Rattle.ducts.proofs.links.count.Goals.{then-is_shared, else-is_shared}
-
-pub loop-i-init : goal.loop-i-init
-loop-i-init c = (omega arith, counted_none _)
-
-pub overflow_add-n : goal.overflow_add-n
-overflow_add-n c =
-    let l = c.loop-i in
-    let a = c.args in
-    omega (arith, l.invariant.1, passing-le (shares (at a.ducts.now) a.k) l.i)
-
-pub loop-i-preserved : goal.loop-i-preserved
-loop-i-preserved c =
-    let l = c.loop-i in (
-      omega arith,
-      elim c.if-is_shared.branch [
-        | then-is_shared w ↦ w.n-is ∙ counted_pass _ l.i l.n l.invariant.1 (sym w.if-is_shared.ensures)
-        | else-is_shared w ↦ w.n-is ∙ counted_fail _ l.i l.n l.invariant.1 (sym w.if-is_shared.ensures)
-      ],
-    )
 
 pub returns : goal.returns
+unfolding sharing
 returns c =
-    let l = c.loop-i in
-    let e : l.i ≡ c.args.links = omega arith in
-    rw (← e) l.invariant.1
+    let m = c.args.m.now in
+    let p = shares (duct m) c.args.k in
+    let all = YieldsList-from_range 0 m.count m.count c.filter.ensures.source (omega arith) in
+    count_from_yields_List c.filter.result _ c.count.ensures.ran (YieldsList-from_filter _ p all c.filter.ensures.closure (λ x r q k. search (rules, tests)))
+    ∙ ap length (filter-range p m.count)

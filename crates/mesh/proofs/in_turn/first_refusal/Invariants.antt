@@ -1,6 +1,6 @@
 -- `mesh::in_turn::first_refusal` meets its contract. The loop keeps that the answer of all entries is that of those from i on, and that `prev` has
 -- the ends of the entry before.
-use Prim.Native.Nat.{◌-◌, ◌≤◌}
+use Prim.Native.Nat.{◌-◌}
 use mathlib.Core.Path.{◌≡◌}
 use mathlib.Core.List.{◌∷◌}
 use Rattle.scan.specs.Entry.{at}
@@ -10,8 +10,5 @@ use Rattle.mesh.proofs.in_turn.first_refusal.Given as goal
 
 abbrev pub invariant-loop-i : goal.invariant-loop-i
 invariant-loop-i l =
-    (l.i ≤ l.count) × (l.prev.low ≡ low_of (at (0 ∷ l.ends) l.i)) × (l.prev.high ≡ high_of (at (0 ∷ l.ends) l.i))
+    (l.prev.low ≡ low_of (at (0 ∷ l.ends) l.i)) × (l.prev.high ≡ high_of (at (0 ∷ l.ends) l.i))
     × (entries_answer l.nodes l.ends 0 l.count ≡ entries_answer l.nodes l.ends l.i (l.count - l.i))
-
-abbrev pub decreases-loop-i : goal.decreases-loop-i
-decreases-loop-i l = l.count - l.i

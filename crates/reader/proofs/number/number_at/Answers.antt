@@ -21,36 +21,17 @@ number-turn s at w i x small some h e =
 below-three : (x k : ℕ) → x < 256 ^ k → k ≤ 3 → x < 256 ^ 3
 below-three x k h l = omega (arith, pow-le-pow_right {n = 256} (lit< tt) {i = k} {j = 3} l)
 
-pub loop-i-init : goal.loop-i-init
-loop-i-init c =
-    let a = c.args in
-    let none : a.w - a.w ≡ 0 = omega arith in
-    (omega arith, (rw none, rw none (lit< tt)))
-
-pub overflow_cast-x : goal.overflow_cast-x
-overflow_cast-x c = omega (arith, c.type_inv.s (c.args.at + (c.loop-i.i - 1)))
-
 pub overflow_mul-x : goal.overflow_mul-x
-overflow_mul-x c = omega (arith, below-three c.loop-i.x _ c.loop-i.invariant.1.1 (omega arith))
+overflow_mul-x c = omega (arith, below-three c.loop-i.x _ c.loop-i.invariant.1 (omega arith))
 
 pub overflow_add-x-in-loop-i : goal.overflow_add-x-in-loop-i
 overflow_add-x-in-loop-i c =
     let lo = c.loop-i in
-    omega (arith, below-three lo.x _ lo.invariant.1.1 (omega arith), c.type_inv.s (c.args.at + (lo.i - 1)))
+    omega (arith, below-three lo.x _ lo.invariant.1 (omega arith), c.type_inv.s (c.args.at + (lo.i - 1)))
 
 pub loop-i-preserved : goal.loop-i-preserved
 loop-i-preserved c =
     let a = c.args in
     let lo = c.loop-i in
     let small : AreBytes a.s.now = λ j. omega (arith, c.type_inv.s j) in
-    (omega arith, number-turn a.s.now a.at a.w lo.i lo.x small c.loop-i-test.true lo.invariant.0 lo.invariant.1.0)
-
-pub returns : goal.returns
-returns c =
-    let a = c.args in
-    let lo = c.loop-i in
-    let all : a.w - lo.i ≡ a.w = omega arith in
-    let front : a.at + lo.i ≡ a.at = omega arith in record {
-      value = rw (all, front) at lo.invariant.1.0;
-      within = rw all at lo.invariant.1.1;
-    }
+    number-turn a.s.now a.at a.w lo.i lo.x small c.loop-i-test.true (omega arith) lo.invariant.0

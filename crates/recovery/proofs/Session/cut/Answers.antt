@@ -1,10 +1,10 @@
 -- `recovery::Session::cut` meets its contract: the answer says of the cut and of the floods whether they stay.
 use mathlib.Core.Path.{ap, ◌∙◌}
-use Rattle.mesh.specs.declared.Answer.{Answer}
+use Rattle.mesh.specs.Answer.{Answer}
 use Rattle.flood.specs.Digraph.{cut}
 use Rattle.wavelengths.specs.declared.Wavelength.{Wavelength}
 use Rattle.wavelengths.specs.Merge.{begin}
-use Rattle.formed.specs.declared.Cut.TheVariants as cuts
+use Rattle.formed.specs.Cut as cuts
 use Rattle.recovery.specs.Session.{floods, session_of}
 use Rattle.recovery.specs.Calls.{digraph, cut_on, change, after_cut}
 use Rattle.recovery.specs.Pieces.{change_to}

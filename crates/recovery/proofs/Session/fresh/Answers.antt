@@ -1,7 +1,7 @@
 -- `recovery::Session::fresh` meets its contract: its floods are quiet.
 use Rattle.wavelengths.specs.Wavelength.{pair}
 use Rattle.recovery.specs.Session.{session_of}
-use Rattle.formed.specs.declared.Cut.TheVariants as cuts
+use Rattle.formed.specs.Cut as cuts
 use Rattle.recovery.proofs.Session.fresh.Goals as goal
 
 pub returns : goal.returns

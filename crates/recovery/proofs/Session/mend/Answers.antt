@@ -1,9 +1,9 @@
 -- `recovery::Session::mend` meets its contract: refused, the cut and the floods stay; accepted, there is no cut and the floods are quiet.
 use mathlib.Core.Path.{ap, ◌∙◌}
-use Rattle.mesh.specs.declared.Answer.{Answer}
+use Rattle.mesh.specs.Answer.{Answer}
 use Rattle.flood.specs.Machine.{fresh}
 use Rattle.wavelengths.specs.Wavelength.{pair}
-use Rattle.formed.specs.declared.Cut.TheVariants as cuts
+use Rattle.formed.specs.Cut as cuts
 use Rattle.recovery.specs.Session.{session_of}
 use Rattle.recovery.specs.Calls.{fresh_on, change, after_mend}
 use Rattle.recovery.specs.Pieces.{change_to}

@@ -5,4 +5,4 @@ use Rattle.recovery.proofs.Session.run.Goals as goal
 pub returns : goal.returns
 returns c =
     let a = c.args in
-    run-made a.self a.allowance _ _ c.run-made.ensures c.run_report-report.ensures
+    run-made a.self a.allowance _ _ c.run-report.ensures

@@ -6,4 +6,4 @@ use Rattle.recovery.proofs.Session.status.Goals as goal
 pub returns : goal.returns
 returns c =
     let a = c.args in
-    c.link_status.ensures ∙ status_made a.self a.link a.wavelength _ c.status-told.ensures
+    c.status.ensures ∙ status_made a.self a.link a.wavelength
