@@ -32,7 +32,8 @@ pub fn begin(mesh: &CutMesh, wavelength: Wavelength, flood: &mut Flood)
         → let g = backup_on wavelength m (record { directions = mesh.now.directions.now }) in
         flood.new ≡ begin g (cut g mesh.now.link) flood.old }
 {
-    delivery::begin(&mesh.arcs(wavelength), flood);
+    let arcs = mesh.arcs(wavelength);
+    delivery::begin(&arcs, flood);
 }
 
 // A delivery on a link.
@@ -52,24 +53,21 @@ pub fn step(mesh: &CutMesh, wavelength: Wavelength, flood: &mut Flood, link: u16
         → let g = backup_on wavelength m (record { directions = mesh.now.directions.now }) in
         Stepped g (cut g mesh.now.link) link flood.old flood.new result }
 {
-    step_on(&mesh.arcs(wavelength), flood, link)
+    let arcs = mesh.arcs(wavelength);
+    step_on(&arcs, flood, link)
 }
 
 // Deliveries on the lowest link under way on either wavelength, on wavelength 1 before 2, until nothing is under way on either or until as many are made as
-// allowed.
+// allowed. The arcs of wavelength 2 are those of wavelength 1 turned round.
 pub fn run(mesh: &CutMesh, first: &mut Flood, second: &mut Flood, allowance: u32) -> Outcome
     ensures { (m : Mesh) → Given m mesh.now.count mesh.now.ends.now mesh.now.link
         → let g : Wavelength → Digraph = λ w. backup_on w m (record { directions = mesh.now.directions.now }) in
         Ended g (λ w. cut (g w) mesh.now.link) allowance (pair first.old second.old)
         (pair first.new second.new) result.made result.rest }
 {
-    flooding::running::run(
-        &mesh.arcs(Wavelength::First),
-        first,
-        &mesh.arcs(Wavelength::Second),
-        second,
-        allowance,
-    )
+    let first_arcs = mesh.arcs(Wavelength::First);
+    let second_arcs = mesh.turned(&first_arcs);
+    flooding::running::run(&first_arcs, first, &second_arcs, second, allowance)
 }
 
 // The taken links on a wavelength, from the source on.
@@ -78,5 +76,6 @@ pub fn route(mesh: &CutMesh, wavelength: Wavelength, flood: &Flood) -> Route
         → let g = backup_on wavelength m (record { directions = mesh.now.directions.now }) in
         result ≡ followed g (cut g mesh.now.link).source flood.now.states }
 {
-    flooding::walk::follow(&mesh.arcs(wavelength), flood)
+    let arcs = mesh.arcs(wavelength);
+    flooding::walk::follow(&arcs, flood)
 }

@@ -3,10 +3,10 @@
 // A delivery on link k says below which link none is under way where none was below k: there the next search starts.
 #![tactic(auto)]
 
-ghost use Rattle.std.specs.Prelude.{◌≡◌, ℕ, ◌<◌, min, true, set};
+ghost use Rattle.std.specs.Prelude.{◌≡◌, ℕ, ◌<◌, min, true, List, set};
 ghost use Rattle.scan.specs.Entry.{has};
 ghost use Rattle.flood.specs.Machine.{begin, arrive, withdraw, step};
-ghost use Rattle.flood.specs.Lent.{graph_on, failure_on};
+ghost use Rattle.flood.specs.Lent.{graph, failure, graph_on, failure_on};
 ghost use Rattle.delivery.specs.Moved.{Moved};
 
 use flood::{Arcs, Flood};
@@ -27,9 +27,11 @@ fn reach(reached: &mut [bool], v: u8)
     }
 }
 
-// The failure: the source is reached, and every link that leaves it and may be offered becomes offered.
+// The failure: the source is reached, and every link that leaves it and may be offered becomes offered, whatever the heads and the target.
 pub fn begin(arcs: &Arcs, flood: &mut Flood)
-    ensures { (n : ℕ) → flood.new ≡ begin (graph_on n arcs.now) (failure_on arcs.now) flood.old }
+    ensures { (n y : ℕ) (h : List ℕ) → flood.new
+        ≡ begin (graph n arcs.now.tails h (min arcs.now.count 256))
+        (failure arcs.now.tails arcs.now.starts arcs.now.source y) flood.old }
 {
     reach(&mut flood.reached, arcs.source);
     offers::offer_all(

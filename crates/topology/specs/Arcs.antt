@@ -12,3 +12,7 @@ arcs_under w c =
     let tails : List ℕ = tails_into w c.count c.ends.now c.directions.now (replicate 256 0) in
     let heads : List ℕ = heads_into w c.count c.ends.now c.directions.now (replicate 256 0) in
     record { tails = tails; heads = heads; starts = set tails c.link 255; count = c.count; source = at heads c.link; target = at tails c.link }
+
+-- every arc turned round, as for the other wavelength, where link k is cut
+unfoldable pub turned_under : ℕ → Arcs → Arcs
+turned_under k a = record { tails = a.heads; heads = a.tails; starts = set a.heads k 255; count = a.count; source = at a.tails k; target = at a.heads k }

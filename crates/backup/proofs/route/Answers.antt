@@ -8,5 +8,5 @@ pub returns : goal.returns
 returns c =
     let a = c.args in
     λ m given.
-    (rw c.arcs.ensures at c.follow.ensures m.nodes)
+    (rw c.arcs-arcs.ensures at c.follow.ensures m.nodes)
     ∙ (λ i. followed (graph_is a.wavelength m a.mesh.now given i) (failure_is a.wavelength m a.mesh.now given i).source a.flood.now.states)

@@ -6,4 +6,4 @@ pub returns : goal.returns
 returns c =
     let a = c.args in
     λ m given.
-    stepped-on (graph_is a.wavelength m a.mesh.now given) (failure_is a.wavelength m a.mesh.now given) (rw c.arcs.ensures at c.step_on.ensures m.nodes)
+    stepped-on (graph_is a.wavelength m a.mesh.now given) (failure_is a.wavelength m a.mesh.now given) (rw c.arcs-arcs.ensures at c.step_on.ensures m.nodes)

@@ -3,4 +3,4 @@ use Rattle.delivery.specs.Laws.Moves.{begin_is}
 use Rattle.delivery.proofs.begin.Goals as goal
 
 pub returns : goal.returns
-returns c = λ n. begin_is _ _ _ _ _ _ _ _ _ _ _ c.offer_all.ensures c.reach.ensures
+returns c = λ n y h. begin_is n _ h _ _ _ y _ _ _ _ c.offer_all.ensures c.reach.ensures

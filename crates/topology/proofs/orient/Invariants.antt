@@ -9,6 +9,6 @@ use Rattle.topology.proofs.orient.Given as goal
 
 abbrev pub invariant-loop-i : goal.invariant-loop-i
 invariant-loop-i l =
-    let tail : ℕ → ℕ = λ j. tail_by First (at l.mesh.ends.now j) (at l.mesh.directions.now j) in
-    let head : ℕ → ℕ = λ j. head_by First (at l.mesh.ends.now j) (at l.mesh.directions.now j) in
+    let tail : ℕ → ℕ = λ j. tail_by First (at l.ends j) (at l.directions j) in
+    let head : ℕ → ℕ = λ j. head_by First (at l.ends j) (at l.directions j) in
     record { tails : l.tails ≡ filled tail l.i l.initial.tails; heads : l.heads ≡ filled head l.i l.initial.heads }
