@@ -7,9 +7,10 @@ ghost use Rattle.legacy.specs.Record.{misplaced, ill_formed, record_answer};
 ghost use Rattle.legacy.specs.WellFormed.{InRange};
 
 use faults::{has_bad_entry, has_stray};
-use mesh::{Mesh, Reason};
+use mesh::Reason;
 
 mod current;
+mod links;
 
 // form: types of their own beside those of now: these never change, since switches in service hold records of them
 #[derive(Clone, Copy, Debug, PartialEq, Eq)]
@@ -86,7 +87,9 @@ pub fn check(s: OldSession) -> Result<(), Reason>
     ensures answer { result ≡ record_answer s }
     ensures ranges { InRange s.mesh }
 {
-    mesh::check(Mesh::from(s.mesh))?;
+    let mut ends = [0u16; 256];
+    let zeros = links::split(&s.mesh, &mut ends);
+    mesh::parts_answer(s.mesh.nodes, s.mesh.count, zeros, &ends)?;
     if is_ill_formed(s) {
         return Err(Reason {
             number: 13,
