@@ -1,5 +1,5 @@
 // Where one link's record stands in a book.
-ghost use Rattle.std.specs.Prelude.{◌≡◌, ◌+◌, ◌≤◌, ◌<◌, length, get_or};
+ghost use Rattle.std.specs.Prelude.{◌≡◌, ◌+◌, ◌≤◌, ◌<◌, IfOk, length, get_or};
 ghost use Rattle.mesh.specs.Answer.{Accepted};
 ghost use Rattle.fields.specs.Record.{record_length};
 ghost use Rattle.codec.specs.Book.{span_answer, span_given};
@@ -31,7 +31,9 @@ fn record_start(book: &[u8], k: usize) -> usize
 
 // The record of a link: reading's refusals, then 12, else its start and end.
 pub(crate) fn find_record(book: &[u8], link: u16) -> Result<Span, Reason>
-    ensures { result ≡ span_given book.now link }
+    ensures value { result ≡ span_given book.now link }
+    ensures order { IfOk result (λ span. span.start ≤ span.end) }
+    ensures within { IfOk result (λ span. span.end ≤ length book.now) }
 {
     let mut m = zero_mesh();
     read_into(book, &mut m)?;

@@ -13,8 +13,8 @@ use Rattle.mesh.specs.Laws.Answer.{must-accepted, and_then-accepted}
 use Rattle.codec.specs.declared.locate.Span.{Span}
 use Rattle.reader.specs.Read.{answer_of}
 use Rattle.fields.specs.Record.{as_link, fields_at, record_length}
-use Rattle.codec.specs.Book.{given_as, records_answer, book_answer, mesh_of, record_start, span_answer, span_of, span_given}
-use Rattle.codec.proofs.Laws.Accepted.{records_accepted, book-accepted}
+use Rattle.codec.specs.Book.{given_as, records_answer, book_answer, mesh_of, decoded, record_start, span_answer, span_of, span_given}
+use Rattle.codec.proofs.Laws.Accepted.{records_accepted, book-accepted, decoded-mesh}
 use Rattle.fields.specs.Laws.Record.{GoodRecord}
 use Rattle.codec.proofs.Laws.Reading.{left-next}
 
@@ -84,6 +84,10 @@ start_first s = refl
 -- ---- the answers
 
 -- the links of a book that is read
+pub decoded-count : (s : List ℕ) → (decoded s).answer ≡ Accepted → (decoded s).mesh.count ≡ number 2 s 2
+unfolding mesh_of
+decoded-count s e = rw (decoded-mesh s e).1
+
 pub mesh_of-count : (s : List ℕ) → (mesh_of s).count ≡ number 2 s 2
 unfolding mesh_of
 mesh_of-count s = refl

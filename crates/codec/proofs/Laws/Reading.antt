@@ -1,5 +1,5 @@
 -- What the reader's loop keeps, and what each of its turns and ways out makes of it. Serves the proof of `read_into`. Assumes nothing.
-use Rattle.std.specs.Prelude.{ℕ, suc, ◌+◌, ◌-◌, ◌≤◌, ◌<◌, ◌≡◌, List, [], ◌∷◌, ◌++◌, Bool, length, get_or, drop, set, Err}
+use Rattle.std.specs.Prelude.{ℕ, suc, ◌+◌, ◌-◌, ◌≤◌, ◌<◌, ◌≡◌, List, [], ◌∷◌, ◌++◌, Bool, true, length, get_or, drop, set, Err}
 use Rattle.std.proofs.Math.Path.{refl, sym}
 use Rattle.std.proofs.Common.{◌∙◌, ap, append_assoc, append-nil, add-one, arith, take-append-drop, length-set, take-suc-set, drop-set-lt}
 use borrow.Author.Tests.{leb-true, le-leb}
@@ -12,12 +12,12 @@ use Rattle.mesh.specs.declared.Link.{Link}
 use Rattle.mesh.specs.declared.Mesh.{Mesh}
 use Rattle.mesh.specs.declared.Reason.{Reason}
 use Rattle.mesh.specs.Answer.{Answer, Accepted}
-use Rattle.mesh.specs.Mesh.{must, zero_link, zero_mesh}
+use Rattle.mesh.specs.Mesh.{must, refuses, zero_link, zero_mesh}
 use Rattle.fields.specs.declared.Fields.{Fields}
 use Rattle.fields.specs.Record.{as_link, zero_fields, record_length, fields_at, record_answer}
 use Rattle.fields.specs.Entries.{entries_of}
 use Rattle.fields.specs.Laws.Entries.{Even, zero-joined, set_joined, mesh-entries, length-entries}
-use Rattle.codec.specs.Book.{header_answer, records_answer, fields_from, book_answer, mesh_of}
+use Rattle.codec.specs.Book.{header_answer, records_answer, fields_from, book_answer, mesh_of, decoded}
 use Rattle.fields.specs.Laws.Record.{record_accepted}
 use Rattle.reader.specs.declared.Record.{Record}
 use Rattle.reader.specs.Laws.Read.{there}
@@ -156,3 +156,10 @@ module _ (s : List ℕ) where
   pub book_records : header_answer s ≡ Accepted → {n k : ℕ} → n ≡ get_or s 1 0 → k ≡ number 2 s 2 → book_answer s ≡ all_records s n k
   unfolding book_answer
   book_records e en ek = rw (e, en, ek)
+
+  -- the answer, with the mesh where it accepts and the all-zero mesh where it refuses
+  pub decoded_is : (m : Mesh) (a : Answer) → a ≡ book_answer s → (a ≡ Accepted → m ≡ mesh_of s) → (refuses a ≡ true → m ≡ zero_mesh)
+      → decoded s ≡ record { mesh = m; answer = a }
+  unfolding decoded
+  decoded_is m Accepted e f g = rw (← e) (λ j. record { mesh = sym (f refl) j; answer = Accepted })
+  decoded_is m (Err r) e f g = rw (← e) (λ j. record { mesh = sym (g refl) j; answer = Err r })

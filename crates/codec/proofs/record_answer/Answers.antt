@@ -10,7 +10,7 @@ pub returns-in_err-find_record : goal.returns-in_err-find_record
 returns-in_err-find_record c =
     let a = c.args in
     let same : c.from_residual.result ≡ Err c.in_err-find_record.field-0.0 = search rules in
-    same ∙ ap answer_of c.in_err-find_record.ensures ∙ span-answer a.book.now a.link
+    same ∙ ap answer_of c.in_err-find_record.ensures.value ∙ span-answer a.book.now a.link
 
 pub returns : goal.returns
-returns c = let a = c.args in ap answer_of c.in_ok-find_record.ensures ∙ span-answer a.book.now a.link
+returns c = let a = c.args in ap answer_of c.in_ok-find_record.ensures.value ∙ span-answer a.book.now a.link

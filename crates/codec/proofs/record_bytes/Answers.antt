@@ -9,24 +9,24 @@ use Rattle.codec.proofs.record_bytes.Goals as goal
 pub returns-in_default : goal.returns-in_default
 unfolding record_part
 returns-in_default c =
-    let e = span_empty c.args.book.now c.args.link c.in_default.ensures in record {
+    let e = span_empty c.args.book.now c.args.link c.in_default.ensures.value in record {
       place = rw e;
       bytes = rw e;
     }
 
 pub slice_bounds-result-count-2 : goal.slice_bounds-result-count-2
-slice_bounds-result-count-2 c = let told = span_told c.args.book.now c.args.link c.in-Ok.ensures in omega (arith, told.1)
+slice_bounds-result-count-2 c = let told = span_told c.args.book.now c.args.link c.in-Ok.ensures.value in omega (arith, told.1)
 
 pub slice_bounds-result-start-2 : goal.slice_bounds-result-start-2
-slice_bounds-result-start-2 c = let told = span_told c.args.book.now c.args.link c.in-Ok.ensures in search (rules, told.1)
+slice_bounds-result-start-2 c = let told = span_told c.args.book.now c.args.link c.in-Ok.ensures.value in search (rules, told.1)
 
 pub slice_bounds-result-end-2 : goal.slice_bounds-result-end-2
-slice_bounds-result-end-2 c = let told = span_told c.args.book.now c.args.link c.in-Ok.ensures in search (rules, told.2)
+slice_bounds-result-end-2 c = let told = span_told c.args.book.now c.args.link c.in-Ok.ensures.value in search (rules, told.2)
 
 pub returns : goal.returns
 unfolding record_part
 returns c =
-    let e = (span_told c.args.book.now c.args.link c.in-Ok.ensures).0 in record {
+    let e = (span_told c.args.book.now c.args.link c.in-Ok.ensures.value).0 in record {
       place = rw (sym e);
       bytes = rw (sym e);
     }

@@ -1,13 +1,28 @@
--- What the query by duct gives on each way out of it. Serves the proof of `sharing`. Assumes nothing.
-use Rattle.std.specs.Prelude.{ℕ, ◌<◌, ◌≤◌, ◌≡◌, List, ◌++◌, drop, length}
+-- What the test of a link and the query by duct give on each way out of them. Serves the proof of `sharing`. Assumes nothing.
+use Rattle.std.specs.Prelude.{ℕ, ◌<◌, ◌≤◌, ◌≡◌, ◌≢◌, true, false, List, ◌++◌, drop, eqb, length}
 use Rattle.std.proofs.Math.Path.{sym}
 use Rattle.std.proofs.Common.{◌∙◌}
-use borrow.Author.Tests.{lt-ltb, le-ltb, le-leb, lt-leb}
+use borrow.Author.Tests.{lt-ltb, le-ltb, le-leb, lt-leb, eq-eqb, ne_eqb}
 use Rattle.mesh.specs.declared.Mesh.{Mesh}
 use Rattle.mesh.specs.Answer.{Answer, Accepted, Refused}
 use Rattle.mesh.specs.Mesh.{mesh_answer}
 use Rattle.ducts.specs.declared.Shared.{Shared}
-use Rattle.ducts.specs.Sharing.{sharing, sharing_answer, shared_as, shared, output_after}
+use Rattle.ducts.specs.Sharing.{shares, sharing, sharing_answer, shared_as, shared, output_after}
+
+-- ---- the test
+
+module _ (ducts : ℕ → ℕ) (k i : ℕ) where
+  -- it is the named link
+  pub shares_itself : i ≡ k → true ≡ shares ducts k i
+  shares_itself e = rw (eq-eqb i k e)
+
+  -- the named link has no duct
+  pub shares_none : i ≢ k → ducts k ≡ 0 → false ≡ shares ducts k i
+  shares_none n z = rw (ne_eqb i k n, eq-eqb (ducts k) 0 z)
+
+  -- it has one
+  pub shares-duct : i ≢ k → ducts k ≢ 0 → eqb (ducts i) (ducts k) ≡ shares ducts k i
+  shares-duct n z = rw (ne_eqb i k n, ne_eqb (ducts k) 0 z)
 
 -- ---- the query
 

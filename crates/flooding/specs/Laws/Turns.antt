@@ -172,9 +172,17 @@ module _ (g₁ g₂ : Digraph) where
           record { same = rw (run_stop g c (a - m) p (sym still)) (made_is p _ _ (omega arith)) ∙ sym r.left; rests = still }
 
       -- the allowance is used
-      pub ended_used : m ≡ a → (rest : Bool) → rest ≡ (leb g₁.links j && leb g₂.links k) → Ended g c a p₀ p a rest
+      pub ended_used : a ≤ m → (rest : Bool) → rest ≡ (leb g₁.links j && leb g₂.links k) → Ended g c a p₀ p m rest
       unfolding run merge.order merge.play merge.accepted
       ended_used h rest e = record {
+        same = (let z : a - m ≡ 0 = omega arith in rw z (made_is p _ _ (omega arith))) ∙ sym r.left;
+        rests = e ∙ rest_is r.low;
+      }
+
+      -- and it was all
+      pub ended-all : m ≡ a → (rest : Bool) → rest ≡ (leb g₁.links j && leb g₂.links k) → Ended g c a p₀ p a rest
+      unfolding run merge.order merge.play merge.accepted
+      ended-all h rest e = record {
         same = (let z : a - m ≡ 0 = omega arith in rw z (made_is p _ _ (omega arith))) ∙ sym r.left;
         rests = e ∙ rest_is r.low;
       }

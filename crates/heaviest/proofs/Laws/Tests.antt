@@ -1,5 +1,5 @@
 -- What the tests of a size and of a digit say, and how much of an input stands before a line feed. Assumes nothing.
-use Rattle.std.specs.Prelude.{ℕ, ◌+◌, ◌-◌, ◌≤◌, List, eqb, length}
+use Rattle.std.specs.Prelude.{ℕ, ◌+◌, ◌-◌, ◌≤◌, ◌≡◌, List, eqb, length}
 use Rattle.std.proofs.Common.{arith}
 use Rattle.scan.specs.Test.{branch, Says, le_says, and_says}
 use Rattle.scan.specs.Entry.{at}
@@ -18,3 +18,6 @@ feed_within s = branch (λ (n : ℕ). n ≤ length s) (eqb (at s (length s - 1))
 -- at most one byte is left out
 pub feed_most : (s : List ℕ) → length s ≤ until_feed s + 1
 feed_most s = branch (λ (n : ℕ). length s ≤ n + 1) (eqb (at s (length s - 1)) 10) (λ t. omega arith) (λ t. omega arith)
+
+pub feed_none : (s : List ℕ) → length s ≡ 0 → until_feed s ≡ 0
+feed_none s e = omega (arith, feed_within s)

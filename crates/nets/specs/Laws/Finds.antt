@@ -49,7 +49,8 @@ module _ (G : Net) (F : Fits G) (n : G.nodes ≤ 64) {rows : List ℕ} (T : Tabl
       let counted : v % 64 ≡ v = omega arith in
       rw counted (ap not (sym (reaches_by F both_ways 0 F.some-node (has reached v) v (λ e. to_leads T (to e), λ p. from (from_leads T p)))))
 
-  finds_in : {v : Option ℕ} → Finds G.nodes rows v → v ≡ lowest_of (unreached G) G.nodes
+  -- it finds the lowest that is not reached, or none
+  pub finds_in : {v : Option ℕ} → Finds G.nodes rows v → v ≡ lowest_of (unreached G) G.nodes
   finds_in D = D.found ∙ sym (lowest_of-same (unreached G) (λ w. not (has D.reached (w % 64))) G.nodes (unreached_is D.spread))
 
 -- on the rows of the links of a mesh that passes the checks

@@ -1,9 +1,10 @@
 -- What an accepted header has, and what reading a header gives, from its answer. Assumes nothing.
-use Rattle.std.specs.Prelude.{ℕ, ◌≤◌, ◌≡◌, List, true, leb, length, get_or, Ok, Err}
+use Rattle.std.specs.Prelude.{ℕ, ◌≤◌, ◌≡◌, List, true, leb, length, get_or, Result, Ok, Err}
 use Rattle.std.proofs.Math.Path.{refl}
 use Rattle.std.proofs.Common.{sym, ap, ◌∙◌, leb-true}
 use Rattle.scan.specs.Bytes.{number}
-use Rattle.mesh.specs.Answer.{Accepted}
+use Rattle.mesh.specs.declared.Reason.{Reason}
+use Rattle.mesh.specs.Answer.{Accepted, Refused}
 use Rattle.mesh.specs.Mesh.{nodes_fit, count_fits}
 use Rattle.mesh.specs.Laws.Answer.{must-accepted}
 use Rattle.reader.specs.declared.Header.{Header}
@@ -26,6 +27,10 @@ header_accepted s e =
     record { four = leb-true _ _ four; version = version; nodes = nodes; count = count }
 
 module _ (s : List ℕ) where
+  pub header_refused : {r : Result Header Reason} {refusal place : ℕ} → r ≡ header_as (Refused refusal place) 0 0 → header_answer s ≡ Refused refusal place → r ≡ header_read s
+  unfolding header_read
+  header_refused e a = e ∙ rw a
+
   -- the answer of a header
   pub header_answer_lem : answer_of (header_read s) ≡ header_answer s
   unfolding header_read

@@ -30,14 +30,22 @@ pub returns-in_err-read_into : goal.returns-in_err-read_into
 returns-in_err-read_into c =
     let a = c.args in
     let same : c.from_residual.result ≡ Err c.in_err-read_into.field-0.0 = search rules in
-    same ∙ span-refused a.book.now a.link (span-unread a.book.now a.link (sym c.read_into.ensures.answer ∙ c.in_err-read_into.was))
+    let e = span-unread a.book.now a.link (sym c.read_into.ensures.answer ∙ c.in_err-read_into.was) in record {
+      value = same ∙ span-refused a.book.now a.link e;
+      order = search (rules, same);
+      within = search (rules, same);
+    }
 
 pub returns-then-m-link : goal.returns-then-m-link
 returns-then-m-link c =
     let a = c.args in
     let t = (goal.at.returns-then-m-link c).In_ok-read_into in
     let h = c.if-m-link.true in
-    span-refused a.book.now a.link (span_none a.book.now a.link (read t) (rw (count-is t) at h))
+    let e = span_none a.book.now a.link (read t) (rw (count-is t) at h) in record {
+      value = span-refused a.book.now a.link e;
+      order = search rules;
+      within = search rules;
+    }
 
 pub record_start-start-requires : goal.record_start-start-requires
 record_start-start-requires c = found c
@@ -48,5 +56,8 @@ overflow_add-end c = omega (arith, c.record_start-start.ensures.whole, c.record_
 pub returns : goal.returns
 returns c =
     let r = c.record_start-start in
-    let a = c.args in
-    rw c.record_length.ensures.value (span_found a.book.now a.link r.result (found (goal.at.returns c).Else-m-link) r.ensures.value)
+    let a = c.args in record {
+      value = rw c.record_length.ensures.value (span_found a.book.now a.link r.result (found (goal.at.returns c).Else-m-link) r.ensures.value);
+      order = omega arith;
+      within = rw c.record_length.ensures.value r.ensures.whole;
+    }

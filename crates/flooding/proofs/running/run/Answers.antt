@@ -1,6 +1,6 @@
 use mathlib.Core.Path.{refl}
 use native.Mathlib.Omega.{arith}
-use Rattle.flooding.specs.Laws.Turns.{pair_is, running_first, running_second, ended-rest, ended_used}
+use Rattle.flooding.specs.Laws.Turns.{pair_is, running_first, running_second, ended-rest, ended-all}
 use Rattle.flooding.proofs.running.run.Goals as goal
 use Rattle.flooding.proofs.running.run.Goals.{then-j-links1, else-j-links1+then-k-links2}
 
@@ -20,4 +20,4 @@ loop-made-preserved c =
     ]
 
 pub returns : goal.returns
-returns c = λ n. ended_used _ _ _ _ _ (c.loop-made.invariant n) (omega arith) _ (rw (← c.links_of-links1.ensures, ← c.links_of-links2.ensures) refl)
+returns c = λ n. ended-all _ _ _ _ _ (c.loop-made.invariant n) (omega arith) _ (rw (← c.links_of-links1.ensures, ← c.links_of-links2.ensures) refl)
