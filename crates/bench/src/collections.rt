@@ -8,9 +8,9 @@ const MOST_ENTRIES: usize = 127;
 
 // A route from each root in turn. The line has something of all that the last one gave, so that no compiler can take any of it out.
 pub(crate) fn collect_job(m: Mesh, repeats: u32) -> Result<(), Reason> {
-    word(b"B");
     let mut nodes = [0u8; MOST_ENTRIES];
     let c = last_of!(repeats, i => collection::collect(m, root_in(i, m.nodes), &mut nodes));
+    word(b"B");
     answer(c.answer);
     if let Ok(()) = c.answer {
         number(c.count as u64);

@@ -9,7 +9,7 @@ use streams::print::{end, field, number};
 // A line for each link.
 pub(crate) fn show_links(m: &Mesh) {
     for k in 0..m.count.min(256) {
-        show_link(m, k);
+        show_link(k as u64, m.links[k as usize], m.ducts[k as usize]);
     }
 }
 
@@ -32,17 +32,13 @@ fn is_unused(l: &Link, duct: u16) -> bool
     l.low == 0 && l.high == 0 && l.length == 0 && l.pair == 0 && duct == 0
 }
 
-// The line of link k; none past the last entry.
-pub fn show_link(m: &Mesh, k: u16) {
-    if 255 < k {
-        return;
-    }
-    let l = m.links[k as usize];
-    field(b"link", k as u64);
+// The line of link i, which has this duct.
+pub fn show_link(i: u64, l: Link, duct: u16) {
+    field(b"link", i);
     number(l.low as u64);
     number(l.high as u64);
     number(l.length as u64);
     number(l.pair as u64);
-    number(m.ducts[k as usize] as u64);
+    number(duct as u64);
     end();
 }

@@ -2,7 +2,6 @@
 #![tactic(auto)]
 
 pub mod entries;
-pub mod read;
 pub mod written;
 
 use crate::entries::{count_rest, show_links};

@@ -3,8 +3,8 @@
 #![tactic(auto)]
 
 use books::entries::show_link;
-use books::read::next_mesh;
 use clients::route::collect;
+use given::next_mesh;
 use mesh::{Mesh, Reason};
 use streams::input::next_byte;
 use streams::print::{answer, end, field, number, numbers};
@@ -33,7 +33,7 @@ fn show_collected(m: &Mesh, root: u8) {
     numbers(b"route", &nodes[..c.count.min(MOST_ENTRIES)]);
     for (k, is_tree) in c.tree.iter().enumerate() {
         if *is_tree {
-            show_link(m, k as u16);
+            show_link(k as u64, m.links[k], m.ducts[k]);
         }
     }
 }

@@ -2,8 +2,8 @@
 // their answers and the session at the end (docs/CORPUS.md, the program calls). A refusal of reading or planning is the only line.
 #![tactic(auto)]
 
-use books::read::next_mesh;
 use clients::session::begin;
+use given::next_mesh;
 use mesh::{Mesh, Reason};
 use replies::session::show_session;
 use script::run_calls;

@@ -8,9 +8,11 @@ ghost use Rattle.clients.specs.Sessions.{begun, recovered};
 use crate::{Begun, Recovered};
 use legacy::OldSession;
 use mesh::{Mesh, Plan};
-use one_cut::FIRST;
 use recovery::{Change, Routed, Session};
 use states::count;
+
+// The number of wavelength 1.
+const FIRST: u8 = 1;
 
 // A start on any mesh and plan.
 pub fn start(m: Mesh, plan: Plan) -> Change
@@ -53,7 +55,8 @@ pub fn recover(s: Session, link: u16) -> Recovered
     ensures value { result ≡ recovered s link }
     ensures sized { Sized s }
 {
-    let run = one_cut::run(s, link);
+    let cut = s.cut(link).session;
+    let run = cut.run(u32::MAX);
     let ended = run.session;
     Recovered {
         deliveries: count::deliveries(&ended.first.states, usize::from(ended.mesh.count)),

@@ -7,20 +7,25 @@ ghost use Rattle.std.specs.Option.{SomeIff};
 ghost use Rattle.dig.specs.Dig.{first_in};
 
 use books::entries::show_link;
-use books::read::next_mesh;
 use clients::duct::{lowest_in, sharing};
+use given::next_mesh;
 use mesh::{Mesh, Reason};
 use streams::input::{next_byte, next_two};
 use streams::print::{answer, end, field, number, word};
 
-// By a link or by a duct; another letter has no answer.
 fn main() {
     if let Some(m) = next_mesh() {
-        match next_byte() {
-            b'L' => show_sharing(&m, next_two()),
-            b'D' => show_duct(&m, next_two()),
-            _ => {}
-        }
+        let letter = next_byte();
+        show_dig(&m, letter, next_two());
+    }
+}
+
+// By a link or by a duct; another letter has no answer.
+fn show_dig(m: &Mesh, letter: u8, n: u16) {
+    match letter {
+        b'L' => show_sharing(m, n),
+        b'D' => show_duct(m, n),
+        _ => {}
     }
 }
 
@@ -57,6 +62,14 @@ fn show_sharing(m: &Mesh, k: u16) {
     number(r.count as u64);
     end();
     for link in links.iter().take(r.count) {
-        show_link(m, *link);
+        show_entry(m, *link);
     }
+}
+
+// The line of link k; none past the last entry.
+fn show_entry(m: &Mesh, k: u16) {
+    if 255 < k {
+        return;
+    }
+    show_link(k as u64, m.links[k as usize], m.ducts[k as usize]);
 }

@@ -14,7 +14,11 @@ const MOST_INPUT: usize = 4;
 
 fn main(rt: HostRuntime) {
     let mut space = [0u8; MOST_INPUT];
-    if let Some(input) = read_or_say(&mut rt.stdin(), &mut space, b"drill") {
+    if let Some(input) = read_or_say(
+        &mut rt.stdin(),
+        &mut space,
+        b"drill: standard input cannot be read\n",
+    ) {
         answer(input);
     }
 }

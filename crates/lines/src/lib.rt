@@ -1,7 +1,7 @@
 // The lines of a listing: the mesh, each link with its direction, and what each cut leads to on wavelength 1 (01, the program meshplan).
 #![tactic(auto)]
 
-ghost use Rattle.std.specs.Prelude.{◌≡◌, ◌==◌, ◌<◌, slice_index, if◌then◌else◌};
+ghost use Rattle.std.specs.Prelude.{◌≡◌, ◌==◌, ◌<◌, ◌≤◌, slice_index, if◌then◌else◌};
 ghost use Rattle.mesh.specs.WellFormed.{link};
 
 use clients::session::recover;
@@ -21,13 +21,22 @@ struct Row {
 }
 
 impl Row {
+    // Zeros past the last entry.
     fn of(fresh: &Session, k: u16) -> Self
-        requires { k < 256 }
         ensures number { result.number ≡ k }
-        ensures low { result.low ≡ (link fresh.now.mesh k).low }
-        ensures high { result.high ≡ (link fresh.now.mesh k).high }
-        ensures direction { result.direction ≡ slice_index fresh.now.plan.directions k }
+        ensures low { k < 256 → result.low ≡ (link fresh.now.mesh k).low }
+        ensures high { k < 256 → result.high ≡ (link fresh.now.mesh k).high }
+        ensures direction { k < 256 → result.direction ≡ slice_index fresh.now.plan.directions k }
+        ensures past { 256 ≤ k → (result.low ≡ 0) × (result.high ≡ 0) × (result.direction ≡ 0) }
     {
+        if 255 < k {
+            return Row {
+                number: k,
+                low: 0,
+                high: 0,
+                direction: 0,
+            };
+        }
         let l = fresh.mesh.links[k as usize];
         Row {
             number: k,
@@ -52,12 +61,11 @@ impl Row {
 // The lines of the mesh, of each link, and of each cut.
 pub fn print_session(fresh: Session) {
     let mut out = Held::new();
-    let links = fresh.mesh.count.min(256);
     out.pair(b"mesh", fresh.mesh.nodes as u64, fresh.mesh.count as u64);
-    for k in 0..links {
+    for k in 0..fresh.mesh.count {
         put_link(&mut out, Row::of(&fresh, k));
     }
-    for k in 0..links {
+    for k in 0..fresh.mesh.count {
         put_cut(&mut out, &fresh, Row::of(&fresh, k));
     }
     out.write();

@@ -9,7 +9,7 @@ use streams::print::line;
 const MODULUS: u64 = 4294967291;
 
 // A digest of bytes.
-#[derive(Drop)]
+#[derive(Clone, Copy)]
 struct Digest {
     value: u64,
     ghost below: { value < MODULUS },

@@ -6,8 +6,9 @@ use std::marker::Model;
 use streams::input::{next_byte, next_four, next_two};
 
 // For each call its letter, the letter of its form in place, and its number. A clause sees how many are held.
-// form: an array for each, since lists::make_calls takes the letters and the numbers of a list as two slices.
-#[derive(Drop)]
+// form: an array for each, since lists::make_calls takes the letters and the numbers of a list as two slices; no `Copy`, which the check lacks for an
+// `impl Model` whose value does not give the fields back.
+#[derive(Clone, Drop)]
 pub(crate) struct Held {
     letters: [u8; MOST_CALLS],
     lent: [u8; MOST_CALLS],

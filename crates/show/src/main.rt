@@ -13,7 +13,11 @@ use streams::print::line;
 fn main(rt: HostRuntime) {
     // 4,096 bytes, longer than any book: what stands past them changes no answer (`long_input` in crates/guarantees/proofs/Main.antt).
     let mut space = io::buffer();
-    if let Some(book) = read_or_say(&mut rt.stdin(), &mut space, b"show") {
+    if let Some(book) = read_or_say(
+        &mut rt.stdin(),
+        &mut space,
+        b"show: standard input cannot be read\n",
+    ) {
         line(b"book", book.len() as u64);
         show_book(book, room(book.len()), 0);
     }

@@ -1,17 +1,18 @@
 // Lines of words and numbers, held in a buffer until it is written.
 ghost use Rattle.std.specs.Prelude.{◌≡◌, ◌≤◌, ℕ, List, [], ◌∷◌, ◌++◌, take};
-ghost use Rattle.streams.specs.Lines.{kept, AddsNumber};
+ghost use Rattle.streams.specs.Lines.{kept, line_end, AddsNumber, AddsPair};
 
 use crate::print;
 use std::marker::Model;
 
 // The size of the buffer, and from where on it counts as full: what is left there has room for any line of up to 2,048 bytes.
-const SIZE: usize = 16384;
+pub const SIZE: usize = 16384;
 
 const FULL: usize = SIZE - 2048;
 
 // The bytes that are held. One past the buffer's end is left out.
-#[derive(Drop)]
+// form: no `Copy`, which the check lacks for an `impl Model` whose value does not give the fields back.
+#[derive(Clone, Drop)]
 pub struct Held {
     bytes: [u8; SIZE],
     used: usize,
@@ -71,14 +72,18 @@ impl Held {
     }
 
     // A line: a word and two numbers.
-    pub fn pair(&mut self, text: &[u8], first: u64, second: u64) {
+    pub fn pair(&mut self, text: &[u8], first: u64, second: u64)
+        ensures { AddsPair self.old self.new text.now first second }
+    {
         self.field(text, first);
         self.number(second);
         self.end_line();
     }
 
     // The end of a line. What is held is written where the buffer is full.
-    pub fn end_line(&mut self) {
+    pub fn end_line(&mut self)
+        ensures { self.new ≡ line_end (kept (self.old ++ 10 ∷ [])) }
+    {
         self.word(b"\n");
         if FULL <= self.used {
             self.write();

@@ -20,13 +20,16 @@ pub fn read_input(input: &mut Stdin, space: &mut [u8]) -> std::io::Result<usize>
     Ok(first + io::read_full(STDIN_FILENO, &mut space[first..]))
 }
 
-// The bytes that are read so; where the input cannot be read, the program says so on stderr, and there are none.
-pub fn read_or_say<'a>(input: &mut Stdin, space: &'a mut [u8], program: &[u8]) -> Option<&'a [u8]>
+// The bytes that are read so; where the input cannot be read, what the program says of it is written to stderr, and there are none.
+pub fn read_or_say<'a>(
+    input: &mut Stdin,
+    space: &'a mut [u8],
+    unreadable: &[u8],
+) -> Option<&'a [u8]>
     ensures { IfSome result (λ bytes. length bytes.now ≤ length space.old) }
 {
     let Ok(count) = read_input(input, space) else {
-        io::write_all(STDERR_FILENO, program);
-        io::write_all(STDERR_FILENO, b": standard input cannot be read\n");
+        io::write_all(STDERR_FILENO, unreadable);
         return None;
     };
     Some(&space[..count])

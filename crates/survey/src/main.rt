@@ -5,8 +5,8 @@
 ghost use Rattle.std.specs.Prelude.{◌≡◌, ◌==◌, count_by};
 ghost use Rattle.std.specs.List.{enumerate_from};
 
-use books::read::read_mesh;
 use bridges::survey;
+use given::read_mesh;
 use mesh::Mesh;
 use streams::input::read_or_say;
 use streams::print::{end, field, number, word};
@@ -14,7 +14,13 @@ use streams::print::{end, field, number, word};
 fn main(rt: HostRuntime) {
     // 4,096 bytes, longer than any book: what stands past them changes nothing (`long_input` in crates/guarantees/proofs/Main.antt).
     let mut space = io::buffer();
-    if let Some(m) = read_or_say(&mut rt.stdin(), &mut space, b"survey").and_then(read_mesh) {
+    if let Some(m) = read_or_say(
+        &mut rt.stdin(),
+        &mut space,
+        b"survey: standard input cannot be read\n",
+    )
+    .and_then(read_mesh)
+    {
         show_survey(&m);
     }
 }

@@ -5,4 +5,4 @@ use Rattle.clients.proofs.session.recover.Goals as goal
 
 pub returns-clause-value : goal.returns-clause-value
 unfolding recovered after
-returns-clause-value c = rw (c.route.ensures, c.status.ensures, c.deliveries.ensures, c.from.ensures, c.run-run.ensures)
+returns-clause-value c = rw (c.route.ensures, c.status.ensures, c.deliveries.ensures, c.from.ensures, c.run-run.ensures, c.cut.ensures)

@@ -1,4 +1,6 @@
-// The mesh of a book.
+// The mesh of a book that a program is given.
+#![tactic(auto)]
+
 ghost use Rattle.std.specs.Prelude.{◌≡◌, ◌↔◌, IsSome, IfSome};
 ghost use Rattle.mesh.specs.Answer.{Accepted};
 ghost use Rattle.mesh.specs.Mesh.{mesh_answer};
